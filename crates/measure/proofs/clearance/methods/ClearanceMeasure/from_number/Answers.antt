@@ -1,0 +1,11 @@
+use mathlib.Core.Path.{sym, _∙_}
+use native.Mathlib.Omega.{arith}
+use Rattle.std.proofs.shelf.Tests.{cond-true}
+use Rattle.std.proofs.shelf.Ways.{tells}
+use Rattle.measure.proofs.clearance.methods.ClearanceMeasure.from_number.Needs as need
+
+pub returns : need.returns
+returns c = c .new .ensures ∙ grind (arith, tells)
+
+pub returns-then-number-lt1 : need.returns-then-number-lt1
+returns-then-number-lt1 c = grind (arith, tells)

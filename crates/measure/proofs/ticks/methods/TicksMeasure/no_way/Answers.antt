@@ -1,0 +1,6 @@
+use native.Mathlib.Omega.{arith}
+use Rattle.measure.proofs.TicksLaws.{ticks-same}
+use Rattle.measure.proofs.ticks.methods.TicksMeasure.no_way.Needs as need
+
+pub returns : need.returns
+returns c = ticks-same _ _ (omega arith)

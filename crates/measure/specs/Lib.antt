@@ -1,0 +1,5 @@
+pub mod Bounds
+pub mod Clearance
+pub mod Meaning
+pub mod Ticks
+pub mod Trip

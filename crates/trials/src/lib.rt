@@ -1,0 +1,4 @@
+// Examples that a reader wants to see run, and a measure of two weights that generic code must bear.
+#[cfg(test)]
+mod measures;
+pub mod reach;
