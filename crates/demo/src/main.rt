@@ -13,9 +13,9 @@ use measure::ticks::methods::TicksMeasure;
 use measure::trip::Trip;
 use measure::trip::methods::TripDisplay;
 use measure::trip::methods::TripMeasure;
+use model::records::Section;
 use std::error::AnyError;
 use std::fmt::Display;
-use walks::Joint;
 use walks::steps;
 
 // A measure that prints, and that says what a bare figure weighs in it.
@@ -56,23 +56,27 @@ const ROUND: [usize; 5] = [1, 2, 3, 4, 5];
 const BROKEN: [usize; 2] = [2, 3];
 
 // The six sections under a measure.
-fn network<M: Figured>(rt: &LibcRuntime) -> Result<Vec<Joint<M>>, AnyError> {
-    let mut joints = Vec::new(rt.alloc());
+fn network<M: Figured>(rt: &LibcRuntime) -> Result<Vec<Section<M>>, AnyError> {
+    let mut sections = Vec::new(rt.alloc());
     for ((low, high), figure) in ENDS.iter().zip(FIGURES.iter()) {
         let Some(weight) = M::of_figure(*figure) else {
             return Err("a figure is no weight".into());
         };
-        joints.push(Joint {
+        sections.push(Section {
             low: *low,
             high: *high,
             weight,
         })?;
     }
-    Ok(joints)
+    Ok(sections)
 }
 
-fn price<M: Figured>(rt: &LibcRuntime, joints: &[Joint<M>], rest: &[usize]) -> Result<M, AnyError> {
-    let weights = steps(rt.alloc(), joints, 0, rest)?;
+fn price<M: Figured>(
+    rt: &LibcRuntime,
+    sections: &[Section<M>],
+    rest: &[usize],
+) -> Result<M, AnyError> {
+    let weights = steps(rt.alloc(), sections, 0, rest)?;
     println!(rt, "  walk from 0 over {rest:?}")?;
     for weight in weights.iter() {
         println!(rt, "    step: {weight}")?;
@@ -84,11 +88,11 @@ fn price<M: Figured>(rt: &LibcRuntime, joints: &[Joint<M>], rest: &[usize]) -> R
 
 fn compare<M: Figured>(rt: &LibcRuntime, name: &str) -> Result<(), AnyError> {
     println!(rt, "{name}")?;
-    let joints = network::<M>(rt)?;
+    let sections = network::<M>(rt)?;
     let mut totals = Vec::new(rt.alloc());
-    totals.push(price(rt, &joints, &DIRECT)?)?;
-    totals.push(price(rt, &joints, &ROUND)?)?;
-    totals.push(price(rt, &joints, &BROKEN)?)?;
+    totals.push(price(rt, &sections, &DIRECT)?)?;
+    totals.push(price(rt, &sections, &ROUND)?)?;
+    totals.push(price(rt, &sections, &BROKEN)?)?;
     let best = best_of(&totals);
     println!(rt, "  best of the three: {best}")?;
     Ok(())

@@ -1,4 +1,6 @@
 // Examples that a reader wants to see run, and a measure of two weights that generic code must bear.
 #[cfg(test)]
+mod limits;
+#[cfg(test)]
 mod measures;
 pub mod reach;

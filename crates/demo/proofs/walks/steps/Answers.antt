@@ -9,11 +9,11 @@ use Rattle.demo.proofs.walks.steps.Needs as need
 
 pub loop-next-again : need.loop-next-again
 loop-next-again g c =
-    let more = steps-more (g .M·Measure .meaning) (c .args .joints .now) (c .loop-next .at) (c .args .rest .now) (c .loop-next .next-index) (vec-items (c .loop-next .weights)) (c .loop-next-test .taken) in
+    let more = steps-more (g .M·Measure .meaning) (c .args .sections .now) (c .loop-next .at) (c .args .rest .now) (c .loop-next .next-index) (vec-items (c .loop-next .weights)) (c .loop-next-test .taken) in
     let pushed = c .in-Continue-push .ensures tt .items in
     (omega arith, rw (pushed, c .step .ensures) (more ∙ c .loop-next .inv .1))
 
 pub returns : need.returns
 returns g c =
-    let left = at-drop-all (step-weights (g .M·Measure .meaning) (c .args .joints .now) (c .loop-next .at)) (c .args .rest .now) (c .loop-next .next-index) (c .loop-next-test .left) in
+    let left = at-drop-all (step-weights (g .M·Measure .meaning) (c .args .sections .now) (c .loop-next .at)) (c .args .rest .now) (c .loop-next .next-index) (c .loop-next-test .left) in
     sym (append-nil _) ∙ ap (λ rest. vec-items (c .loop-next .weights) ++ rest) (sym left) ∙ c .loop-next .inv .1

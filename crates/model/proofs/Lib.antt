@@ -1,0 +1,3 @@
+pub mod Laying
+pub mod Lookups
+pub mod Ordering

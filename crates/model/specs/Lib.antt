@@ -1,0 +1,12 @@
+pub mod Ledger
+pub mod Levels
+pub mod Lists
+pub mod Networks
+pub mod Queries
+pub mod Records
+pub mod Refusals
+pub mod Sections
+pub mod Small
+pub mod Sound
+pub mod Slots
+pub mod Tables
