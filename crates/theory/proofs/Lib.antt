@@ -1,0 +1,4 @@
+pub mod Climbing
+pub mod Covering
+pub mod Stopped
+pub mod Weighing

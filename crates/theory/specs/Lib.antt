@@ -1,0 +1,4 @@
+pub mod Ascent
+pub mod Laws
+pub mod Stopping
+pub mod Towers

@@ -1,0 +1,30 @@
+// The theorems about the definitions, each on the contract of a small function for any measure.
+ghost use Rattle.theory.specs.Ascent.{Ascent-preserves, Best-is-unique};
+ghost use Rattle.theory.specs.Stopping.{Stop-is-right};
+ghost use Rattle.theory.specs.Towers.{Entries-are-walks, Labels-cover};
+use measure::Measure;
+
+// There is only one best cost between two stations.
+pub fn best_is_unique<M: Measure>()
+    ensures { λ _. ⌜ Best-is-unique (M·Measure .meaning) ⌝ }
+{}
+
+// One level up the best costs stay.
+pub fn ascent_preserves<M: Measure>()
+    ensures { λ _. ⌜ Ascent-preserves (M·Measure .meaning) ⌝ }
+{}
+
+// Every entry of a label is the cost of a walk.
+pub fn entries_are_walks<M: Measure>()
+    ensures { λ _. ⌜ Entries-are-walks (M·Measure .meaning) ⌝ }
+{}
+
+// Every walk is covered by a common hub, or by residual entries and a residual walk.
+pub fn labels_cover<M: Measure>()
+    ensures { λ _. ⌜ Labels-cover (M·Measure .meaning) ⌝ }
+{}
+
+// Where the stop rule holds, or a side has nothing waiting, the best so far is no worse than any walk between seeds.
+pub fn stop_is_right<M: Measure>()
+    ensures { λ _. ⌜ Stop-is-right (M·Measure .meaning) ⌝ }
+{}
