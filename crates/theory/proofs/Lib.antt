@@ -1,4 +1,10 @@
 pub mod Climbing
 pub mod Covering
+pub mod Leasts
+pub mod PlainSearch
+pub mod Relaxing
+pub mod Searching
 pub mod Stopped
+pub mod Tabs
+pub mod Undone
 pub mod Weighing

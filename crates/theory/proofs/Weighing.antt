@@ -60,6 +60,10 @@ module _ {W : Type 0} (m : Meaning W) (laws : Travel-laws m) where
   pub grows : (a b : W) → No-worse m b (m .join a b)
   grows a b = subst (λ x. No-worse m x (m .join a b)) (laws .free-left b) (laws .mono-left (m .free) a b (laws .free-best a))
 
+  -- nor does what is joined behind
+  pub grows-behind : (a b : W) → No-worse m a (m .join a b)
+  grows-behind a b = subst (λ x. No-worse m x (m .join a b)) (laws .free-right a) (laws .mono-right (m .free) b a (laws .free-best b))
+
   -- a best cost is no worse than another
   best-below : (G : Net W) (s t : ℕ) (c d : W) → Best m G s t c → Best m G s t d → No-worse m c d
   best-below G s t c d best other =

@@ -1,5 +1,6 @@
 // The theorems about the definitions, each on the contract of a small function for any measure.
 ghost use Rattle.theory.specs.Ascent.{Ascent-preserves, Best-is-unique};
+ghost use Rattle.theory.specs.Sides.{Plain-is-right};
 ghost use Rattle.theory.specs.Stopping.{Stop-is-right};
 ghost use Rattle.theory.specs.Towers.{Entries-are-walks, Labels-cover};
 use measure::Measure;
@@ -27,4 +28,9 @@ pub fn labels_cover<M: Measure>()
 // Where the stop rule holds, or a side has nothing waiting, the best so far is no worse than any walk between seeds.
 pub fn stop_is_right<M: Measure>()
     ensures { λ _. ⌜ Stop-is-right (M·Measure .meaning) ⌝ }
+{}
+
+// The plain query answers the best among all walks.
+pub fn plain_is_right<M: Measure>()
+    ensures { λ _. ⌜ Plain-is-right (M·Measure .meaning) ⌝ }
 {}

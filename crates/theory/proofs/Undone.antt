@@ -1,0 +1,48 @@
+-- How many stations are not settled yet. Assumes nothing.
+use mathlib.Core.Bool.{Bool, true, false, cond}
+use mathlib.Core.List.{List, [], _∷_}
+use mathlib.Core.Path.{_≡_, refl, sym, ap, ap₂, subst, _∙_}
+use Prim.Native.Nat.{ℕ, zero, suc, _≤_, _<_}
+use native.Mathlib.Omega.{arith}
+use lib.ListN.{length, set}
+use Rattle.std.proofs.shelf.Tests.{both-ways}
+use Rattle.model.specs.Slots.{Slot, idle, is-settled, settled, waits}
+use Rattle.theory.specs.Sides.{done-at}
+
+abbrev pub undone : {W : Type 0} → List (Slot W) → ℕ
+undone [] = 0
+undone (x ∷ xs) = cond (is-settled x) (undone xs) (suc (undone xs))
+
+module _ {W : Type 0} where
+  -- it depends only on which are settled
+  pub undone-same : (xs ys : List (Slot W)) → length xs ≡ length ys → ((z : ℕ) → done-at xs z ≡ done-at ys z) → undone xs ≡ undone ys
+  undone-same [] [] e same = refl
+  undone-same [] (y ∷ ys) e same = absurd (omega arith)
+  undone-same (x ∷ xs) [] e same = absurd (omega arith)
+  undone-same (x ∷ xs) (y ∷ ys) e same =
+      ap₂ (λ b n. cond b n (suc n)) (same 0) (undone-same xs ys (omega arith) (λ z. same (suc z)))
+
+  -- one less when one is settled
+  pub undone-set : (xs : List (Slot W)) (v : ℕ) (k : W) → v < length xs → done-at xs v ≡ false → undone xs ≡ suc (undone (set xs v (settled k)))
+  undone-set [] v k within e = absurd (omega arith)
+  undone-set (x ∷ xs) zero k within e = ap (λ b. cond b (undone xs) (suc (undone xs))) e
+  undone-set (x ∷ xs) (suc v) k within e = one-more (is-settled x) (undone-set xs v k (omega arith) e)
+    where
+      one-more : (b : Bool) {i j : ℕ} → i ≡ suc j → cond b i (suc i) ≡ suc (cond b j (suc j))
+      one-more true h = h
+      one-more false h = ap suc h
+
+  -- where none is left, all are settled
+  pub undone-none : (xs : List (Slot W)) → undone xs ≡ 0 → (z : ℕ) → z < length xs → done-at xs z ≡ true
+  undone-none [] e z within = absurd (omega arith)
+  undone-none (idle ∷ xs) e z within = absurd (omega arith)
+  undone-none (waits w ∷ xs) e z within = absurd (omega arith)
+  undone-none (settled w ∷ xs) e zero within = refl
+  undone-none (settled w ∷ xs) e (suc z) within = undone-none xs e z (omega arith)
+
+  -- and never more than there are
+  pub undone-most : (xs : List (Slot W)) → undone xs ≤ length xs
+  undone-most [] = omega arith
+  undone-most (idle ∷ xs) = let h = undone-most xs in omega arith
+  undone-most (waits w ∷ xs) = let h = undone-most xs in omega arith
+  undone-most (settled w ∷ xs) = let h = undone-most xs in omega arith
