@@ -1,7 +1,9 @@
+pub mod BothSides
 pub mod Climbing
 pub mod Covering
 pub mod Leasts
 pub mod PlainSearch
+pub mod Reaching
 pub mod Relaxing
 pub mod Searching
 pub mod Stopped

@@ -34,7 +34,7 @@ abbrev pub only : {W : Type 0} → Meaning W → ℕ → ℕ → Option W
 only m s x = cond (eqb x s) (Some (m .free)) None
 
 module _ {W : Type 0} (m : Meaning W) (laws : Travel-laws m) where
-  ranks : Ranks (m .leb)
+  pub ranks : Ranks (m .leb)
   ranks = record { total = laws .total; trans = laws .trans }
 
   idle-everywhere : (n x : ℕ) → slot-at (replicate {A = Slot W} n idle) x ≡ idle

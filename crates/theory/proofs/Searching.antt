@@ -30,7 +30,7 @@ pub record Legs-of {W : Type 0} (n : ℕ) (G : Net W) (v : ℕ) (legs : List (Le
 
 module _ {W : Type 0} (m : Meaning W) (laws : Travel-laws m) (n : ℕ) (G : Net W) (seed : ℕ → Option W) where
   -- a key that goes on over a section
-  further : (v u : ℕ) (k a : W) → From-seed m G seed v k → G v u ≡ Some a → From-seed m G seed u (m .join k a)
+  pub further : (v u : ℕ) (k a : W) → From-seed m G seed v k → G v u ≡ Some a → From-seed m G seed u (m .join k a)
   further v u k a f e =
       let (walk, is) = append m laws (f .walk) (step v u a e stop) in
       record {
@@ -60,7 +60,7 @@ module _ {W : Type 0} (m : Meaning W) (laws : Travel-laws m) (n : ℕ) (G : Net 
     elsewhere z other = getD-set-other xs v z (settled k) idle other
 
     -- settling changes no key
-    same-key : (z : ℕ) → key-at m (set xs v (settled k)) z ≡ key-at m xs z
+    pub same-key : (z : ℕ) → key-at m (set xs v (settled k)) z ≡ key-at m xs z
     same-key z =
         ⊎-elim (λ same. ap (key-at m (set xs v (settled k))) same ∙ ap (keyed m) there ∙ sym (ap (keyed m) waiting) ∙ ap (key-at m xs) (sym same))
         (λ other. ap (keyed m) (elsewhere z other)) (cases-eq z v)

@@ -3,3 +3,4 @@ pub mod Laws
 pub mod Sides
 pub mod Stopping
 pub mod Towers
+pub mod TwoSided
