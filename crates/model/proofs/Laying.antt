@@ -17,7 +17,7 @@ use Rattle.model.specs.Levels.{level-at}
 use Rattle.model.specs.Lists.{padded, stretch, tab}
 use Rattle.model.specs.Records.{blank-entry, blank-leg, blank-station}
 use Rattle.model.specs.Sound.{Blank-behind, Lies-there, Parts-lie-there, Unused-is-blank, hubs-rise}
-use Rattle.model.specs.Tables.{Built, begins, begins-or-0, downward, entries-from, label-of, laid, legs-of, station-of, stations-at, upward, used-entries, used-legs}
+use Rattle.model.specs.Tables.{Built, begins, begins-or-0, downward, emitted, entry, label-of, laid, legs-of, station-of, stations-at, upward, used-entries, used-legs}
 use Rattle.model.specs.declared.records.Entry.{Entry}
 
 -- a station stands in a list
@@ -91,10 +91,10 @@ module _ {W : Type 0} where
       let (first, rest) = and-parts (leb b (e .hub)) (hubs-rise (suc (e .hub)) es) q in
       and-from _ _ (le-leb a (e .hub) (omega (arith, leb-true b (e .hub) first))) rest
 
-  entries-rise : (w : ℕ) (cells : List (Option W)) → hubs-rise w (entries-from w cells) ≡ true
-  unfolding entries-from
+  entries-rise : (w : ℕ) (cells : List (Option W)) → hubs-rise w (emitted entry w cells) ≡ true
+  unfolding emitted
   entries-rise w [] = refl
-  entries-rise w (None ∷ cells) = hubs-lower w (suc w) (entries-from (suc w) cells) (omega arith) (entries-rise (suc w) cells)
+  entries-rise w (None ∷ cells) = hubs-lower w (suc w) (emitted entry (suc w) cells) (omega arith) (entries-rise (suc w) cells)
   entries-rise w (Some d ∷ cells) = and-from _ _ (le-leb w w (omega arith)) (entries-rise (suc w) cells)
 
   pub parts-lie-there : Parts-lie-there W

@@ -45,25 +45,27 @@ unfoldable pub downward : ℕ → List ℕ → ℕ → List ℕ
 downward n levels zero = []
 downward n levels (suc level) = stations-at n levels (suc level) ++ downward n levels level
 
--- The legs that a row from station v on makes for station u.
-unfoldable pub legs-from : {W : Type 0} → ℕ → ℕ → List (Option W) → List (Leg W)
-legs-from u v [] = []
-legs-from u v (None ∷ cells) = legs-from u (suc v) cells
-legs-from u v (Some a ∷ cells) = record { from = u; to = v; weight = a } ∷ legs-from u (suc v) cells
+-- What a row from station v on makes, one record for each weight that it has.
+unfoldable pub emitted : {A W : Type 0} → (ℕ → W → A) → ℕ → List (Option W) → List A
+emitted make v [] = []
+emitted make v (None ∷ cells) = emitted make (suc v) cells
+emitted make v (Some a ∷ cells) = make v a ∷ emitted make (suc v) cells
+
+-- A leg.
+abbrev pub leg : {W : Type 0} → ℕ → ℕ → W → Leg W
+leg u v a = record { from = u; to = v; weight = a }
 
 -- The legs of a station: its row in its level's network, by the other end.
 abbrev pub legs-of : {W : Type 0} → Grid W → ℕ → List (Leg W)
-legs-of g u = legs-from u 0 (row g u)
+legs-of g u = emitted (leg u) 0 (row g u)
 
--- The entries that a row of label weights from hub w on makes.
-unfoldable pub entries-from : {W : Type 0} → ℕ → List (Option W) → List (Entry W)
-entries-from w [] = []
-entries-from w (None ∷ cells) = entries-from (suc w) cells
-entries-from w (Some d ∷ cells) = record { hub = w; weight = d } ∷ entries-from (suc w) cells
+-- An entry.
+abbrev pub entry : {W : Type 0} → ℕ → W → Entry W
+entry w d = record { hub = w; weight = d }
 
 -- The label of a station, by hub.
 abbrev pub label-of : {W : Type 0} → Grid W → ℕ → List (Entry W)
-label-of labels v = entries-from 0 (row labels v)
+label-of labels v = emitted entry 0 (row labels v)
 
 -- A station's own entry.
 abbrev pub own-entry : {W : Type 0} → Meaning W → ℕ → ℕ → Option W
@@ -72,8 +74,8 @@ own-entry m v w = cond (eqb v w) (Some (m .free)) None
 -- The best weight for hub w over some legs, each joined to the entry of its other end, and over what was found so far.
 unfoldable pub over-legs : {W : Type 0} → Meaning W → Grid W → ℕ → Option W → List (Leg W) → Option W
 over-legs m labels w found [] = found
-over-legs m labels w found (leg ∷ legs) =
-    over-legs m labels w (better-some m found (by-some (look labels (leg .to) w) None (λ d. Some (m .join (leg .weight) d)))) legs
+over-legs m labels w found (l ∷ ls) =
+    over-legs m labels w (better-some m found (by-some (look labels (l .to) w) None (λ d. Some (m .join (l .weight) d)))) ls
 
 -- The label weights of a station below the top, from the labels of the stations that its legs lead to.
 abbrev pub label-row : {W : Type 0} → Meaning W → ℕ → Grid W → Grid W → ℕ → List (Option W)

@@ -19,7 +19,7 @@ use Rattle.model.specs.Slots.{Slot, idle, is-settled, key-of, least-from, settl
 use Rattle.model.specs.Tables.{legs-of}
 use Rattle.model.specs.declared.records.Leg.{Leg}
 use Rattle.theory.specs.Laws.{No-worse, Travel-laws}
-use Rattle.theory.specs.Sides.{From-seed, Side, done-at, key-at, keyed, slot-at}
+use Rattle.theory.specs.Sides.{From-seed, Legs-of, Mem, Side, done-at, key-at, keyed, slot-at}
 use Rattle.theory.specs.Stopping.{At-rest}
 use Rattle.theory.specs.Towers.{back}
 use Rattle.theory.specs.TwoSided.{Meets-in, Under-way}
@@ -27,9 +27,8 @@ use Rattle.theory.proofs.Leasts.{First, Found, Ranks, found}
 use Rattle.theory.proofs.PlainSearch.{ranks}
 use Rattle.theory.proofs.Reaching.{Met, reached-kind, reached-met, reached-slots}
 use Rattle.theory.proofs.Relaxing.{Relaxing, relaxing}
-use Rattle.theory.proofs.Searching.{Legs-of, further, same-key, taking-keeps}
+use Rattle.theory.proofs.Searching.{further, same-key, taking-keeps}
 use Rattle.theory.proofs.Stopped.{stop-is-right}
-use Rattle.theory.proofs.Tabs.{Mem}
 use Rattle.theory.proofs.Undone.{undone, undone-none, undone-same, undone-set}
 use Rattle.theory.proofs.Weighing.{no-worse-of, no-worse-refl, turned-laws}
 
@@ -43,9 +42,9 @@ pub record Stepped {W : Type 0} (m : Meaning W) (n : ℕ) (R : Net W) (seed : �
 
 module _ {W : Type 0} (m : Meaning W) (laws : Travel-laws m) (n : ℕ) (R : Net W) (seed : ℕ → Option W) (Kind : W → Type 0) where
   stepped : (mine other : List (Slot W)) (best : W) (v : ℕ) (k : W) (legs : List (Leg W)) → Side m n R seed mine → First (m .leb) 0 mine v k → Legs-of n R v legs
-    → ((x : ℕ) → No-worse m best (m .join (key-at m mine x) (key-at m other x))) → Kind best
-    → ((x : ℕ) (a j : W) → From-seed m R seed x a → key-of (slot-at other x) ≡ Some j → Kind (m .join a j))
-    → Stepped m n R seed Kind mine other best (reached m k legs (set mine v (settled k)) other best)
+      → ((x : ℕ) → No-worse m best (m .join (key-at m mine x) (key-at m other x))) → Kind best
+      → ((x : ℕ) (a j : W) → From-seed m R seed x a → key-of (slot-at other x) ≡ Some j → Kind (m .join a j))
+      → Stepped m n R seed Kind mine other best (reached m k legs (set mine v (settled k)) other best)
   stepped mine other best v k legs side first own meets old new =
       let at : v ≡ first .place = let e = first .is-there in omega arith in
       let within : v < length mine = let h = first .within in omega arith in
@@ -54,13 +53,13 @@ module _ {W : Type 0} (m : Meaning W) (laws : Travel-laws m) (n : ℕ) (R : Net 
       let slots = reached-slots m laws k legs (set mine v (settled k)) other best in
       let met = reached-met m laws k legs (set mine v (settled k)) other best inside (λ x. subst (λ y. No-worse m best (m .join y (key-at m other x))) (sym (same-key m laws n R seed mine side v k first x)) (meets x)) in
       let r = relaxing m laws k legs (set mine v (settled k)) inside in
-      record
-        { side = subst (Side m n R seed) (sym slots) (taking-keeps m laws n R seed mine side v k first legs own)
-        ; improved = met .improved
-        ; meets = λ x. subst (λ ys. No-worse m (reached m k legs (set mine v (settled k)) other best .1) (m .join (key-at m ys x) (key-at m other x))) (sym slots) (met .meets x)
-        ; kind = reached-kind m laws Kind k legs (set mine v (settled k)) other best old (λ leg h j e. new (leg .to) _ j (further m laws n R seed v (leg .to) k (leg .weight) (side .real v k (ap key-of waiting)) (own .sections leg h .1)) e)
-        ; fewer = undone-set mine v k within (ap is-settled waiting) ∙ ap suc (sym (undone-same _ _ (r .long) (r .same-done))) ∙ ap (λ ys. suc (undone ys)) (sym slots)
-        }
+      record {
+        side = subst (Side m n R seed) (sym slots) (taking-keeps m laws n R seed mine side v k first legs own);
+        improved = met .improved;
+        meets = λ x. subst (λ ys. No-worse m (reached m k legs (set mine v (settled k)) other best .1) (m .join (key-at m ys x) (key-at m other x))) (sym slots) (met .meets x);
+        kind = reached-kind m laws Kind k legs (set mine v (settled k)) other best old (λ leg h j e. new (leg .to) _ j (further m laws n R seed v (leg .to) k (leg .weight) (side .real v k (ap key-of waiting)) (own .sections leg h .1)) e);
+        fewer = undone-set mine v k within (ap is-settled waiting) ∙ ap suc (sym (undone-same _ _ (r .long) (r .same-done))) ∙ ap (λ ys. suc (undone ys)) (sym slots);
+      }
 
 -- what a search from both sides comes to: no worse than where it started, nor than any walk between seeds, and of its kind
 pub record Settled {W : Type 0} (m : Meaning W) (R : Net W) (seed seed-back : ℕ → Option W) (Kind : W → Type 0) (start : W) (s : Search W) : Type 0 where
@@ -68,7 +67,7 @@ pub record Settled {W : Type 0} (m : Meaning W) (R : Net W) (seed seed-back : �
   pub right : (x y : ℕ) (a b : W) → seed x ≡ Some a → seed-back y ≡ Some b → (q : Walk R y x) → No-worse m (s .best) (m .join a (m .join (cost m q) b))
   pub kind : Kind (s .best)
 
-keyed-turned : {W : Type 0} (m : Meaning W) (x : Slot W) → keyed (turned m) x ≡ keyed m x
+pub keyed-turned : {W : Type 0} (m : Meaning W) (x : Slot W) → keyed (turned m) x ≡ keyed m x
 keyed-turned m idle = refl
 keyed-turned m (waits w) = refl
 keyed-turned m (settled w) = refl
@@ -95,8 +94,8 @@ module _ {W : Type 0} (m : Meaning W) (laws : Travel-laws m) where
       by-slot (settled w) e h = absurd (both-ways true h refl)
 
 module _ {W : Type 0} (m : Meaning W) (laws : Travel-laws m) (n : ℕ) (R : Net W) (g : Grid W) (seed seed-back : ℕ → Option W) (Kind : W → Type 0) (meets-in : Meets-in m R seed seed-back Kind)
-  (own : (v : ℕ) (k : W) → From-seed m R seed v k → Legs-of n R v (legs-of g v))
-  (own-back : (v : ℕ) (k : W) → From-seed (turned m) (back R) seed-back v k → Legs-of n (back R) v (legs-of g v)) where
+    (own : (v : ℕ) (k : W) → From-seed m R seed v k → Legs-of n R v (legs-of g v))
+    (own-back : (v : ℕ) (k : W) → From-seed (turned m) (back R) seed-back v k → Legs-of n (back R) v (legs-of g v)) where
   back-laws : Travel-laws (turned m)
   back-laws = turned-laws m laws
 
@@ -127,32 +126,32 @@ module _ {W : Type 0} (m : Meaning W) (laws : Travel-laws m) (n : ℕ) (R : Net 
   reverse-way : (s : Search W) → Under-way m n R seed seed-back Kind s → (q : ℕ × W) → First (m .leb) 0 (s .reverse) (q .0) (q .1) → Under-way m n R seed seed-back Kind (reverse-step m g q s)
   reverse-way s u q f =
       let r = goes-back s u q f in
-      record
-        { forward-ok = u .forward-ok
-        ; reverse-ok = r .side
-        ; meets = λ x.
+      record {
+        forward-ok = u .forward-ok;
+        reverse-ok = r .side;
+        meets = λ x.
             subst (λ y. No-worse m (reverse-step m g q s .best) (m .join y (key-at m (reverse-step m g q s .reverse) x))) (keyed-turned m (slot-at (s .forward) x))
-            (subst (λ y. No-worse m (reverse-step m g q s .best) (m .join (key-at (turned m) (s .forward) x) y)) (keyed-turned m (slot-at (reverse-step m g q s .reverse) x)) (r .meets x))
-        ; kind = r .kind
-        }
+            (subst (λ y. No-worse m (reverse-step m g q s .best) (m .join (key-at (turned m) (s .forward) x) y)) (keyed-turned m (slot-at (reverse-step m g q s .reverse) x)) (r .meets x));
+        kind = r .kind;
+      }
 
   -- at rest the best so far is right
   rests : (s : Search W) → Under-way m n R seed seed-back Kind s → (a b : W) → ((z : ℕ) → done-at (s .forward) z ≡ false → No-worse m a (key-at m (s .forward) z)) → ((z : ℕ) → done-at (s .reverse) z ≡ false → No-worse m b (key-at (turned m) (s .reverse) z)) → No-worse m (s .best) (m .join a b) → Settled m R seed seed-back Kind (s .best) s
   rests s u a b waiting waiting-back stops =
-      record
-        { improved = no-worse-refl m laws (s .best)
-        ; right = λ x y c d e f q. stop-is-right m laws R (key-at m (s .forward)) (key-at (turned m) (s .reverse)) (done-at (s .forward)) (done-at (s .reverse)) a b (s .best)
-            (record
-              { relaxed = u .forward-ok .relaxed
-              ; relaxed-back = u .reverse-ok .relaxed
-              ; waiting = waiting
-              ; waiting-back = waiting-back
-              ; meets = λ z. subst (λ k. No-worse m (s .best) (m .join (key-at m (s .forward) z) k)) (sym (keyed-turned m (slot-at (s .reverse) z))) (u .meets z)
-              ; stops = stops
-              })
-            x y c d (u .forward-ok .seeded x c e) (u .reverse-ok .seeded y d f) q
-        ; kind = u .kind
-        }
+      record {
+        improved = no-worse-refl m laws (s .best);
+        right = λ x y c d e f q. stop-is-right m laws R (key-at m (s .forward)) (key-at (turned m) (s .reverse)) (done-at (s .forward)) (done-at (s .reverse)) a b (s .best)
+            (record {
+              relaxed = u .forward-ok .relaxed;
+              relaxed-back = u .reverse-ok .relaxed;
+              waiting = waiting;
+              waiting-back = waiting-back;
+              meets = λ z. subst (λ k. No-worse m (s .best) (m .join (key-at m (s .forward) z) k)) (sym (keyed-turned m (slot-at (s .reverse) z))) (u .meets z);
+              stops = stops;
+            })
+            x y c d (u .forward-ok .seeded x c e) (u .reverse-ok .seeded y d f) q;
+        kind = u .kind;
+      }
 
   -- a later end is one of an earlier start
   from-earlier : (start later : W) (s : Search W) → No-worse m later start → Settled m R seed seed-back Kind later s → Settled m R seed seed-back Kind start s
@@ -169,7 +168,7 @@ module _ {W : Type 0} (m : Meaning W) (laws : Travel-laws m) (n : ℕ) (R : Net 
 
   -- one turn, where further turns go right
   module _ (turns : ℕ) (s : Search W) (u : Under-way m n R seed seed-back Kind s) (few : undone (s .forward) + undone (s .reverse) ≤ suc turns)
-    (on : (s′ : Search W) → Under-way m n R seed seed-back Kind s′ → undone (s′ .forward) + undone (s′ .reverse) ≤ turns → Settled m R seed seed-back Kind (s′ .best) (two-sided m g turns s′)) where
+      (on : (s′ : Search W) → Under-way m n R seed seed-back Kind s′ → undone (s′ .forward) + undone (s′ .reverse) ≤ turns → Settled m R seed seed-back Kind (s′ .best) (two-sided m g turns s′)) where
     by-side : (p q : ℕ × W) → First (m .leb) 0 (s .forward) (p .0) (p .1) → First (m .leb) 0 (s .reverse) (q .0) (q .1) → (b : Bool) → Settled m R seed seed-back Kind (s .best) (two-sided m g turns (choose b (λ _. forward-step m g p s) (λ _. reverse-step m g q s)))
     by-side p q f h true =
         let r = goes-forward s u p f in

@@ -67,7 +67,7 @@ module _ {W : Type 0} (m : Meaning W) (laws : Travel-laws m) where
         (omega arith, inside .1)
 
     -- a walk of any level's network as one of the lowest
-    sink : (i : ℕ) → 1 ≤ i → i ≤ k → {t s : ℕ} (c : W) → Costing m (G i) t s c → Costing m (G 1) t s c
+    pub sink : (i : ℕ) → 1 ≤ i → i ≤ k → {t s : ℕ} (c : W) → Costing m (G i) t s c → Costing m (G 1) t s c
     sink zero low high c p = absurd (omega arith)
     sink (suc zero) low high c p = p
     sink (suc (suc i)) low high c (p, is) =

@@ -1,3 +1,4 @@
+pub mod Asking
 pub mod BothSides
 pub mod Climbing
 pub mod Covering
@@ -6,7 +7,9 @@ pub mod PlainSearch
 pub mod Reaching
 pub mod Relaxing
 pub mod Searching
+pub mod Seeding
 pub mod Stopped
 pub mod Tabs
+pub mod Turning
 pub mod Undone
 pub mod Weighing

@@ -20,11 +20,11 @@ use Rattle.model.specs.Queries.{Answer, arrived, offered, plain-search, relaxed
 use Rattle.model.specs.Slots.{Slot, idle, is-settled, key-of, least-from, settled, settling, waits}
 use Rattle.model.specs.Tables.{legs-of}
 use Rattle.theory.specs.Laws.{No-worse, Travel-laws}
-use Rattle.theory.specs.Sides.{Bounded, From-seed, Plain-is-right, Side, done-at, key-at, keyed, slot-at}
+use Rattle.theory.specs.Sides.{Bounded, From-seed, Legs-of, Plain-is-right, Side, done-at, key-at, keyed, slot-at}
 use Rattle.theory.proofs.Climbing.{Costing}
 use Rattle.theory.proofs.Leasts.{First, Found, Ranks, found}
 use Rattle.theory.proofs.Relaxing.{Offering, Relaxing, offering, relaxing}
-use Rattle.theory.proofs.Searching.{Legs-of, taking-keeps}
+use Rattle.theory.proofs.Searching.{taking-keeps}
 use Rattle.theory.proofs.Tabs.{grid-leg, has-grid-leg, none-some, some-same}
 use Rattle.theory.proofs.Undone.{undone, undone-most, undone-none, undone-same, undone-set}
 use Rattle.theory.proofs.Weighing.{grows-behind, no-worse-of}
@@ -37,7 +37,7 @@ module _ {W : Type 0} (m : Meaning W) (laws : Travel-laws m) where
   pub ranks : Ranks (m .leb)
   ranks = record { total = laws .total; trans = laws .trans }
 
-  idle-everywhere : (n x : ℕ) → slot-at (replicate {A = Slot W} n idle) x ≡ idle
+  pub idle-everywhere : (n x : ℕ) → slot-at (replicate {A = Slot W} n idle) x ≡ idle
   idle-everywhere n x =
       ⊎-elim (λ below. getD-replicate n x idle idle below) (λ above. getD-past (replicate n idle) x idle (subst (λ k. k ≤ x) (sym (length-replicate n idle)) above)) (cases-lt x n)
 

@@ -13,9 +13,8 @@ use Rattle.model.specs.Slots.{Slot, idle, key-of, settled, waits}
 use Rattle.std.specs.declared.option.Option.the-variants.{Some}
 use Rattle.model.specs.declared.records.Leg.{Leg}
 use Rattle.theory.specs.Laws.{No-worse, Travel-laws}
-use Rattle.theory.specs.Sides.{key-at, keyed, slot-at}
+use Rattle.theory.specs.Sides.{Mem, key-at, keyed, slot-at}
 use Rattle.theory.proofs.Relaxing.{otherwise}
-use Rattle.theory.proofs.Tabs.{Mem}
 use Rattle.theory.proofs.Weighing.{no-worse-of, no-worse-refl}
 
 module _ {W : Type 0} (m : Meaning W) (laws : Travel-laws m) where
@@ -79,15 +78,17 @@ module _ {W : Type 0} (m : Meaning W) (laws : Travel-laws m) where
     where
       offer : W
       offer = m .join k (leg .weight)
+
       further : {xs : List (Slot W)} {after : W} → Met m xs other (met m (m .join k (leg .weight)) (slot-at other (leg .to)) best) after → Met m xs other best after
       further l = record { improved = laws .trans _ _ _ (l .improved) (met-improved (m .join k (leg .weight)) (slot-at other (leg .to)) best); meets = l .meets }
+
       here : (x : ℕ) → No-worse m (met m (m .join k (leg .weight)) (slot-at other (leg .to)) best) (m .join (key-at m (set mine (leg .to) (waits (m .join k (leg .weight)))) x) (key-at m other x))
       here x =
           ⊎-elim
           (λ same. subst (λ y. No-worse m (met m (m .join k (leg .weight)) (slot-at other (leg .to)) best) (m .join (key-at m (set mine (leg .to) (waits (m .join k (leg .weight)))) y) (key-at m other y))) (sym same)
-            (subst (λ y. No-worse m (met m (m .join k (leg .weight)) (slot-at other (leg .to)) best) (m .join (keyed m y) (key-at m other (leg .to)))) (sym (getD-set-same mine (leg .to) (waits (m .join k (leg .weight))) idle (within leg (inl refl)))) (met-joined (m .join k (leg .weight)) (slot-at other (leg .to)) best)))
+          (subst (λ y. No-worse m (met m (m .join k (leg .weight)) (slot-at other (leg .to)) best) (m .join (keyed m y) (key-at m other (leg .to)))) (sym (getD-set-same mine (leg .to) (waits (m .join k (leg .weight))) idle (within leg (inl refl)))) (met-joined (m .join k (leg .weight)) (slot-at other (leg .to)) best)))
           (λ apart. laws .trans _ _ _ (met-improved (m .join k (leg .weight)) (slot-at other (leg .to)) best)
-            (subst (λ y. No-worse m best (m .join (keyed m y) (key-at m other x))) (sym (getD-set-other mine (leg .to) x (waits (m .join k (leg .weight))) idle apart)) (meets x)))
+          (subst (λ y. No-worse m best (m .join (keyed m y) (key-at m other x))) (sym (getD-set-other mine (leg .to) x (waits (m .join k (leg .weight))) idle apart)) (meets x)))
           (cases-eq x (leg .to))
 
   -- and its kind, where each offer joined to a key of the other side is of that kind

@@ -12,8 +12,7 @@ use Rattle.model.specs.Queries.{improves, is-key, offered, relaxed}
 use Rattle.model.specs.Slots.{Slot, idle, is-settled, settled, waits}
 use Rattle.model.specs.declared.records.Leg.{Leg}
 use Rattle.theory.specs.Laws.{No-worse, Travel-laws}
-use Rattle.theory.specs.Sides.{done-at, key-at, keyed, slot-at}
-use Rattle.theory.proofs.Tabs.{Mem}
+use Rattle.theory.specs.Sides.{Mem, done-at, key-at, keyed, slot-at}
 use Rattle.theory.proofs.Weighing.{no-worse-of, no-worse-refl}
 
 module _ {W : Type 0} (m : Meaning W) (laws : Travel-laws m) where

@@ -16,17 +16,12 @@ use Rattle.model.specs.Queries.{relaxed}
 use Rattle.model.specs.Slots.{Slot, idle, is-settled, key-of, settled, waits}
 use Rattle.model.specs.declared.records.Leg.{Leg}
 use Rattle.theory.specs.Laws.{No-worse, Travel-laws}
-use Rattle.theory.specs.Sides.{From-seed, Side, done-at, key-at, keyed, slot-at}
+use Rattle.theory.specs.Sides.{From-seed, Legs-of, Mem, Side, done-at, key-at, keyed, slot-at}
 use Rattle.theory.proofs.Covering.{append}
 use Rattle.theory.proofs.Leasts.{First}
 use Rattle.theory.proofs.Relaxing.{Relaxing, relaxing}
-use Rattle.theory.proofs.Tabs.{Mem, none-some, some-same}
+use Rattle.theory.proofs.Tabs.{none-some, some-same}
 use Rattle.theory.proofs.Weighing.{grows-behind, no-worse-of, no-worse-refl}
-
--- the legs of a station are its sections
-pub record Legs-of {W : Type 0} (n : ℕ) (G : Net W) (v : ℕ) (legs : List (Leg W)) : Type 0 where
-  pub sections : (leg : Leg W) → Mem leg legs → (leg .to < n) × (G v (leg .to) ≡ Some (leg .weight))
-  pub all : (u : ℕ) (a : W) → G v u ≡ Some a → Mem (record { from = v; to = u; weight = a }) legs
 
 module _ {W : Type 0} (m : Meaning W) (laws : Travel-laws m) (n : ℕ) (G : Net W) (seed : ℕ → Option W) where
   -- a key that goes on over a section

@@ -14,13 +14,9 @@ use Rattle.model.proofs.Laying.{length-tab}
 use Rattle.model.specs.Levels.{Grid, grid-of, look, row}
 use Rattle.model.specs.Lists.{stretch, tab}
 use Rattle.model.specs.Networks.{Net}
-use Rattle.model.specs.Tables.{legs-from, legs-of}
+use Rattle.model.specs.Tables.{emitted, leg, legs-of}
 use Rattle.model.specs.declared.records.Leg.{Leg}
-
--- x stands in a list
-abbrev pub Mem : {A : Type 0} → A → List A → Type 0
-Mem x [] = ⊥
-Mem x (y ∷ ys) = (x ≡ y) ⊎ Mem x ys
+use Rattle.theory.specs.Sides.{Mem}
 
 -- what stands at a place of a row
 pub getD-tab : {A : Type 0} (n : ℕ) (f : ℕ → A) (i : ℕ) (d : A) → i < n → getD (tab n f) i d ≡ f i
@@ -42,24 +38,6 @@ getD-tab-past n f i d beyond = getD-past (tab n f) i d (subst (λ k. k ≤ i) (s
 pub look-grid : {W : Type 0} (n : ℕ) (G : Net W) (u v : ℕ) → u < n → v < n → look (grid-of n G) u v ≡ G u v
 look-grid n G u v hu hv = ap (λ r. getD r v None) (getD-tab n (λ x. tab n (G x)) u [] hu) ∙ getD-tab n (G u) v None hv
 
--- every leg of a row leads where the row has a weight
-pub leg-is : {W : Type 0} (u v : ℕ) (cells : List (Option W)) (leg : Leg W) → Mem leg (legs-from u v cells) → (leg .from ≡ u) × (v ≤ leg .to) × (getD cells (leg .to - v) None ≡ Some (leg .weight))
-unfolding legs-from
-leg-is u v [] leg h = absurd h
-leg-is u v (None ∷ cells) leg h =
-    let (from, low, is) = leg-is u (suc v) cells leg h in
-    (from, omega arith, subst (λ k. getD (None ∷ cells) k None ≡ Some (leg .weight)) (let e : suc (leg .to - suc v) ≡ leg .to - v = omega arith in e) is)
-leg-is u v (Some a ∷ cells) leg h =
-    ⊎-elim
-    (λ e.
-    let to : leg .to ≡ v = ap (λ (l : Leg _). l .to) e in
-    let none : leg .to - v ≡ 0 = omega arith in
-    (ap (λ (l : Leg _). l .from) e, omega arith, subst (λ k. getD (Some a ∷ cells) k None ≡ Some (leg .weight)) (sym none) (ap Some (sym (ap (λ (l : Leg _). l .weight) e)))))
-    (λ later.
-    let (from, low, is) = leg-is u (suc v) cells leg later in
-    (from, omega arith, subst (λ k. getD (Some a ∷ cells) k None ≡ Some (leg .weight)) (let e : suc (leg .to - suc v) ≡ leg .to - v = omega arith in e) is))
-    h
-
 -- nothing is not something
 pub none-some : {A : Type 0} (a : A) → None ≡ Some a → ⊥
 none-some a e = let z : _≡_ {A = ℕ} 0 1 = cc in absurd (omega arith)
@@ -67,31 +45,55 @@ none-some a e = let z : _≡_ {A = ℕ} 0 1 = cc in absurd (omega arith)
 pub some-same : {A : Type 0} (a b : A) → Some a ≡ Some b → a ≡ b
 some-same a b e = cc
 
-leg-at : {W : Type 0} → ℕ → ℕ → W → Leg W
-leg-at u v a = record { from = u; to = v; weight = a }
+-- what a row makes comes from its weights
+pub emitted-is : {A W : Type 0} (make : ℕ → W → A) (v : ℕ) (cells : List (Option W)) (x : A) → Mem x (emitted make v cells) → (i : ℕ) × ((a : W) × ((x ≡ make (v + i) a) × (getD cells i None ≡ Some a)))
+unfolding emitted
+emitted-is make v [] x h = absurd h
+emitted-is make v (None ∷ cells) x h =
+    let (i, (a, (is, there))) = emitted-is make (suc v) cells x h in
+    (suc i, (a, (is ∙ ap (λ k. make k a) (let same : suc v + i ≡ v + suc i = omega arith in same), there)))
+emitted-is make v (Some a ∷ cells) x h =
+    ⊎-elim (λ e. (0, (a, (e ∙ ap (λ k. make k a) (let same : v ≡ v + 0 = omega arith in same), refl))))
+    (λ later.
+    let (i, (b, (is, there))) = emitted-is make (suc v) cells x later in
+    (suc i, (b, (is ∙ ap (λ k. make k b) (let same : suc v + i ≡ v + suc i = omega arith in same), there))))
+    h
 
--- and every weight of a row has its leg
-pub has-leg : {W : Type 0} (u v : ℕ) (cells : List (Option W)) (i : ℕ) (a : W) → getD cells i None ≡ Some a → Mem (record { from = u; to = v + i; weight = a }) (legs-from u v cells)
-unfolding legs-from leg-at
-has-leg u v [] i a e = absurd (none-some a e)
-has-leg u v (None ∷ cells) zero a e = absurd (none-some a e)
-has-leg u v (None ∷ cells) (suc i) a e =
-    subst (λ k. Mem (leg-at u k a) (legs-from u (suc v) cells)) (let same : suc v + i ≡ v + suc i = omega arith in same) (has-leg u (suc v) cells i a e)
-has-leg u v (Some b ∷ cells) zero a e =
-    inl (ap₂ (leg-at u) (let same : v + 0 ≡ v = omega arith in same) (sym (some-same b a e)))
-has-leg u v (Some b ∷ cells) (suc i) a e =
-    inr (subst (λ k. Mem (leg-at u k a) (legs-from u (suc v) cells)) (let same : suc v + i ≡ v + suc i = omega arith in same) (has-leg u (suc v) cells i a e))
+-- and each weight makes something
+pub has-emitted : {A W : Type 0} (make : ℕ → W → A) (v : ℕ) (cells : List (Option W)) (i : ℕ) (a : W) → getD cells i None ≡ Some a → Mem (make (v + i) a) (emitted make v cells)
+unfolding emitted
+has-emitted make v [] i a e = absurd (none-some a e)
+has-emitted make v (None ∷ cells) zero a e = absurd (none-some a e)
+has-emitted make v (None ∷ cells) (suc i) a e =
+    subst (λ k. Mem (make k a) (emitted make (suc v) cells)) (let same : suc v + i ≡ v + suc i = omega arith in same) (has-emitted make (suc v) cells i a e)
+has-emitted make v (Some b ∷ cells) zero a e =
+    inl (ap₂ make (let same : v + 0 ≡ v = omega arith in same) (sym (some-same b a e)))
+has-emitted make v (Some b ∷ cells) (suc i) a e =
+    inr (subst (λ k. Mem (make k a) (emitted make (suc v) cells)) (let same : suc v + i ≡ v + suc i = omega arith in same) (has-emitted make (suc v) cells i a e))
+
+-- from the first station on
+pub row-is : {A W : Type 0} (make : ℕ → W → A) (cells : List (Option W)) (x : A) → Mem x (emitted make 0 cells) → (i : ℕ) × ((a : W) × ((x ≡ make i a) × (getD cells i None ≡ Some a)))
+row-is make cells x h =
+    let (i, (a, (is, there))) = emitted-is make 0 cells x h in
+    (i, (a, (is ∙ ap (λ k. make k a) (zero-add i), there)))
+
+pub has-row : {A W : Type 0} (make : ℕ → W → A) (cells : List (Option W)) (i : ℕ) (a : W) → getD cells i None ≡ Some a → Mem (make i a) (emitted make 0 cells)
+has-row make cells i a e = subst (λ k. Mem (make k a) (emitted make 0 cells)) (zero-add i) (has-emitted make 0 cells i a e)
+
+-- a grid has nothing beyond its stations
+pub look-past : {W : Type 0} (n : ℕ) (G : Net W) (u v : ℕ) → u < n → n ≤ v → look (grid-of n G) u v ≡ None
+look-past n G u v hu beyond = ap (λ r. getD r v None) (getD-tab n (λ x. tab n (G x)) u [] hu) ∙ getD-tab-past n (G u) v None beyond
 
 -- the legs of a station in a grid
-pub grid-leg : {W : Type 0} (n : ℕ) (G : Net W) (u : ℕ) (leg : Leg W) → u < n → Mem leg (legs-of (grid-of n G) u) → (leg .to < n) × (G u (leg .to) ≡ Some (leg .weight))
-grid-leg n G u leg hu h =
-    let (from, low, is) = leg-is u 0 (row (grid-of n G) u) leg h in
-    let found : look (grid-of n G) u (leg .to) ≡ Some (leg .weight) = subst (λ k. getD (row (grid-of n G) u) k None ≡ Some (leg .weight)) (let same : leg .to - 0 ≡ leg .to = omega arith in same) is in
-    ⊎-elim (λ below. (below, sym (look-grid n G u (leg .to) hu below) ∙ found))
-    (λ above. absurd (none-some (leg .weight) (sym (ap (λ r. getD r (leg .to) None) (getD-tab n (λ x. tab n (G x)) u [] hu) ∙ getD-tab-past n (G u) (leg .to) None above) ∙ found)))
-    (cases-lt (leg .to) n)
+pub grid-leg : {W : Type 0} (n : ℕ) (G : Net W) (u : ℕ) (l : Leg W) → u < n → Mem l (legs-of (grid-of n G) u) → (l .to < n) × (G u (l .to) ≡ Some (l .weight))
+grid-leg {W} n G u l hu h =
+    let (i, (a, (is, there))) = row-is (leg u) (row (grid-of n G) u) l h in
+    let to : l .to ≡ i = ap (λ (x : Leg W). x .to) is in
+    let weight : l .weight ≡ a = ap (λ (x : Leg W). x .weight) is in
+    let found : look (grid-of n G) u (l .to) ≡ Some (l .weight) = ap (look (grid-of n G) u) to ∙ there ∙ ap Some (sym weight) in
+    ⊎-elim (λ below. (below, sym (look-grid n G u (l .to) hu below) ∙ found))
+    (λ above. absurd (none-some (l .weight) (sym (look-past n G u (l .to) hu above) ∙ found)))
+    (cases-lt (l .to) n)
 
-pub has-grid-leg : {W : Type 0} (n : ℕ) (G : Net W) (u v : ℕ) (a : W) → u < n → v < n → G u v ≡ Some a → Mem (record { from = u; to = v; weight = a }) (legs-of (grid-of n G) u)
-unfolding leg-at
-has-grid-leg n G u v a hu hv e =
-    subst (λ k. Mem (leg-at u k a) (legs-of (grid-of n G) u)) (zero-add v) (has-leg u 0 (row (grid-of n G) u) v a (look-grid n G u v hu hv ∙ e))
+pub has-grid-leg : {W : Type 0} (n : ℕ) (G : Net W) (u v : ℕ) (a : W) → u < n → v < n → G u v ≡ Some a → Mem (leg u v a) (legs-of (grid-of n G) u)
+has-grid-leg n G u v a hu hv e = has-row (leg u) (row (grid-of n G) u) v a (look-grid n G u v hu hv ∙ e)

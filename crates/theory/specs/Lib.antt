@@ -1,4 +1,5 @@
 pub mod Ascent
+pub mod Indexed
 pub mod Laws
 pub mod Sides
 pub mod Stopping

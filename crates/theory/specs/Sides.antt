@@ -1,6 +1,7 @@
 -- One side of a search. Assumes nothing.
 use mathlib.Core.Bool.{Bool, true, false}
-use mathlib.Core.List.{List}
+use mathlib.Core.List.{List, [], _∷_}
+use mathlib.Core.Logic.{_⊎_}
 use mathlib.Core.Path.{_≡_}
 use Prim.Native.Nat.{ℕ, _<_}
 use lib.ListN.{getD, length}
@@ -10,6 +11,8 @@ use Rattle.measure.specs.Meaning.{Meaning}
 use Rattle.model.specs.Networks.{Best, Net, Walk, cost}
 use Rattle.model.specs.Queries.{plain-query}
 use Rattle.model.specs.Slots.{Slot, idle, is-settled, key-of, settled, waits}
+use Rattle.model.specs.Tables.{leg}
+use Rattle.model.specs.declared.records.Leg.{Leg}
 use Rattle.theory.specs.Laws.{No-worse}
 
 -- The key of a slot, no way where it has none.
@@ -54,3 +57,13 @@ Bounded {W} n G = (u v : ℕ) (a : W) → G u v ≡ Some a → (u < n) × (v < n
 -- The plain query answers the best among all walks.
 abbrev pub Plain-is-right : {W : Type 0} → Meaning W → Type 0
 Plain-is-right {W} m = (n : ℕ) (G : Net W) → Bounded n G → (s t : ℕ) → s < n → t < n → Best m G s t (plain-query m n G s t .cost)
+
+-- Something stands in a list.
+abbrev pub Mem : {A : Type 0} → A → List A → Type 0
+Mem x [] = ⊥
+Mem x (y ∷ ys) = (x ≡ y) ⊎ Mem x ys
+
+-- Some legs are the sections of a station v: each is one, to a station below n, and each is among them.
+pub record Legs-of {W : Type 0} (n : ℕ) (G : Net W) (v : ℕ) (legs : List (Leg W)) : Type 0 where
+  pub sections : (l : Leg W) → Mem l legs → (l .to < n) × (G v (l .to) ≡ Some (l .weight))
+  pub all : (u : ℕ) (a : W) → G v u ≡ Some a → Mem (leg v u a) legs

@@ -1,5 +1,6 @@
 // The theorems about the definitions, each on the contract of a small function for any measure.
 ghost use Rattle.theory.specs.Ascent.{Ascent-preserves, Best-is-unique};
+ghost use Rattle.theory.specs.Indexed.{Indexed-is-right};
 ghost use Rattle.theory.specs.Sides.{Plain-is-right};
 ghost use Rattle.theory.specs.Stopping.{Stop-is-right};
 ghost use Rattle.theory.specs.Towers.{Entries-are-walks, Labels-cover};
@@ -33,4 +34,9 @@ pub fn stop_is_right<M: Measure>()
 // The plain query answers the best among all walks.
 pub fn plain_is_right<M: Measure>()
     ensures { λ _. ⌜ Plain-is-right (M·Measure .meaning) ⌝ }
+{}
+
+// The indexed query answers the best among all walks, over any levels and labels that stand on networks.
+pub fn indexed_is_right<M: Measure>()
+    ensures { λ _. ⌜ Indexed-is-right (M·Measure .meaning) ⌝ }
 {}

@@ -1,0 +1,3 @@
+pub mod Bytes
+pub mod Writes
+pub mod Places
