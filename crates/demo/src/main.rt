@@ -1,6 +1,8 @@
-// Prices some walks of a small network under each house measure, and names the best.
+// Prices some walks of a small network under each house measure, names the best, and writes the network to a file and reads it.
+mod files;
 mod walks;
 
+use files::travel;
 use measure::Measure;
 use measure::clearance::Clearance;
 use measure::clearance::methods::ClearanceDisplay;
@@ -101,7 +103,10 @@ fn compare<M: Figured>(rt: &LibcRuntime, name: &str) -> Result<(), AnyError> {
 fn run(rt: &LibcRuntime) -> Result<(), AnyError> {
     compare::<Ticks>(rt, "ticks")?;
     compare::<Clearance>(rt, "clearance")?;
-    compare::<Trip>(rt, "ticks and transfers")
+    compare::<Trip>(rt, "ticks and transfers")?;
+    println!(rt, "the network in ticks as a file")?;
+    let sections = network::<Ticks>(rt)?;
+    travel(rt, &sections, 6)
 }
 
 fn main(rt: LibcRuntime) -> Result<(), AnyError> {

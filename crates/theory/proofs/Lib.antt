@@ -1,5 +1,6 @@
 pub mod Asking
 pub mod BothSides
+pub mod Cases
 pub mod Climbing
 pub mod Covering
 pub mod Leasts

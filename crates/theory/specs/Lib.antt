@@ -5,3 +5,4 @@ pub mod Sides
 pub mod Stopping
 pub mod Towers
 pub mod TwoSided
+pub mod Worked

@@ -4,6 +4,7 @@ ghost use Rattle.theory.specs.Indexed.{Indexed-is-right};
 ghost use Rattle.theory.specs.Sides.{Plain-is-right};
 ghost use Rattle.theory.specs.Stopping.{Stop-is-right};
 ghost use Rattle.theory.specs.Towers.{Entries-are-walks, Labels-cover};
+ghost use Rattle.theory.specs.Worked.{Worked-cases};
 use measure::Measure;
 
 // There is only one best cost between two stations.
@@ -40,3 +41,9 @@ pub fn plain_is_right<M: Measure>()
 pub fn indexed_is_right<M: Measure>()
     ensures { λ _. ⌜ Indexed-is-right (M·Measure .meaning) ⌝ }
 {}
+
+// The worked cases hold of the definitions.
+pub fn worked_cases_hold()
+    ensures { λ _. ⌜ Worked-cases ⌝ }
+{
+}
