@@ -1,4 +1,5 @@
 pub mod Ascent
+pub mod Building
 pub mod Indexed
 pub mod Laws
 pub mod Sides

@@ -1,5 +1,6 @@
 // The theorems about the definitions, each on the contract of a small function for any measure.
 ghost use Rattle.theory.specs.Ascent.{Ascent-preserves, Best-is-unique};
+ghost use Rattle.theory.specs.Building.{Levels-answer, Levels-stand, Queries-agree};
 ghost use Rattle.theory.specs.Indexed.{Indexed-is-right};
 ghost use Rattle.theory.specs.Sides.{Plain-is-right};
 ghost use Rattle.theory.specs.Stopping.{Stop-is-right};
@@ -42,8 +43,22 @@ pub fn indexed_is_right<M: Measure>()
     ensures { λ _. ⌜ Indexed-is-right (M·Measure .meaning) ⌝ }
 {}
 
+// What is built over levels that are independent in their networks stands on these networks, however they were picked.
+pub fn levels_stand<M: Measure>()
+    ensures { λ _. ⌜ Levels-stand (M·Measure .meaning) ⌝ }
+{}
+
+// Over such levels the indexed query answers the best among all walks of the network.
+pub fn levels_answer<M: Measure>()
+    ensures { λ _. ⌜ Levels-answer (M·Measure .meaning) ⌝ }
+{}
+
+// Over such levels the indexed query and the plain query answer the same cost.
+pub fn queries_agree<M: Measure>()
+    ensures { λ _. ⌜ Queries-agree (M·Measure .meaning) ⌝ }
+{}
+
 // The worked cases hold of the definitions.
 pub fn worked_cases_hold()
     ensures { λ _. ⌜ Worked-cases ⌝ }
-{
-}
+{}
