@@ -226,7 +226,7 @@ module _ {W : Type 0} (m : Meaning W) (laws : Travel-laws m) (comm : (a b : W) �
       ⊎-elim
       (λ hu. cond-true _ _ _ (le-leb 1 _ (good .low u hu))
       ∙ ⊎-elim (λ hv. look-grid n G u v hu hv) (λ beyond. look-past n G u v hu beyond ∙ sym (nothing (λ a e. omega (arith, plain .bounded u v a e .1)))) (cases-lt v n))
-      (λ beyond. cond-false _ _ _ (lt-leb 1 _ (let none = good .beyond u beyond in omega arith)) ∙ sym (nothing (λ a e. omega (arith, plain .bounded u v a e .0)))) (cases-lt u n)
+      (λ beyond. cond-false (leb 1 (level-at levels u)) _ _ (lt-leb 1 (level-at levels u) (let none = good .beyond u beyond in omega arith)) ∙ sym (nothing (λ a e. omega (arith, plain .bounded u v a e .0)))) (cases-lt u n)
     where
       nothing : ((a : W) → G u v ≡ Some a → ⊥) → G u v ≡ None
       nothing never = by-weight (G u v) refl

@@ -7,6 +7,7 @@ pub mod Covering
 pub mod Labelling
 pub mod Leasts
 pub mod Nexts
+pub mod Picked
 pub mod PlainSearch
 pub mod Reaching
 pub mod Relaxing
