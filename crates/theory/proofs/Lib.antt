@@ -1,8 +1,10 @@
 pub mod Asking
 pub mod BothSides
+pub mod Builds
 pub mod Built
 pub mod Cases
 pub mod Climbing
+pub mod Climbs
 pub mod Covering
 pub mod Labelling
 pub mod Leasts

@@ -6,10 +6,12 @@ use Prim.Native.Nat.{ℕ, zero, suc, _≤_, _<_}
 use lib.Dec.{leb}
 use Rattle.std.specs.declared.option.Option.the-variants.{None, Some}
 use Rattle.measure.specs.Meaning.{Meaning}
-use Rattle.model.specs.Levels.{level-at, look, stage-by}
-use Rattle.model.specs.Networks.{Best, Net}
+use Rattle.model.specs.Levels.{climbed, level-at, look, stage-by}
+use Rattle.model.specs.Networks.{Best, Net, network}
 use Rattle.model.specs.Queries.{indexed-query, plain-query}
-use Rattle.model.specs.Tables.{built-by}
+use Rattle.model.specs.Sections.{all-within}
+use Rattle.model.specs.Tables.{built, built-by}
+use Rattle.model.specs.declared.records.Section.{Section}
 use Rattle.theory.specs.Indexed.{Stands-on}
 use Rattle.theory.specs.Sides.{Bounded}
 
@@ -45,3 +47,16 @@ Levels-answer {W} m = (n j : ℕ) (levels : List ℕ) (G : Net W) → Plain-netw
 abbrev pub Queries-agree : {W : Type 0} → Meaning W → Type 0
 Queries-agree {W} m = (n j : ℕ) (levels : List ℕ) (G : Net W) → Plain-network n G → Good-levels m n (suc j) levels G → (s t : ℕ) → s < n → t < n →
     indexed-query m n (built-by m n (suc j) levels (stage-by m n levels G j .rows)) s t .cost ≡ plain-query m n G s t .cost
+
+-- Sections that join stations below n make such a network.
+abbrev pub Sections-make-a-network : Type 0 → Type 0
+Sections-make-a-network W = (n : ℕ) (ss : List (Section W)) → all-within n ss ≡ true → Plain-network n (network ss)
+
+-- What a build of any network under any height limit and threshold answers: the best among all walks, as the plain query does.
+pub record Answers-right {W : Type 0} (m : Meaning W) (n : ℕ) (G : Net W) (height threshold s t : ℕ) : Type 0 where
+  pub best : Best m G s t (indexed-query m n (built m n (climbed m n G height threshold)) s t .cost)
+  pub agrees : indexed-query m n (built m n (climbed m n G height threshold)) s t .cost ≡ plain-query m n G s t .cost
+
+-- So it is for every build.
+abbrev pub Builds-answer-right : {W : Type 0} → Meaning W → Type 0
+Builds-answer-right {W} m = (n : ℕ) (G : Net W) → Plain-network n G → (height threshold s t : ℕ) → s < n → t < n → Answers-right m n G height threshold s t

@@ -1,6 +1,6 @@
 // The theorems about the definitions, each on the contract of a small function for any measure.
 ghost use Rattle.theory.specs.Ascent.{Ascent-preserves, Best-is-unique};
-ghost use Rattle.theory.specs.Building.{Levels-answer, Levels-stand, Queries-agree};
+ghost use Rattle.theory.specs.Building.{Builds-answer-right, Levels-answer, Levels-stand, Queries-agree, Sections-make-a-network};
 ghost use Rattle.theory.specs.Indexed.{Indexed-is-right};
 ghost use Rattle.theory.specs.Sides.{Plain-is-right};
 ghost use Rattle.theory.specs.Stopping.{Stop-is-right};
@@ -56,6 +56,16 @@ pub fn levels_answer<M: Measure>()
 // Over such levels the indexed query and the plain query answer the same cost.
 pub fn queries_agree<M: Measure>()
     ensures { λ _. ⌜ Queries-agree (M·Measure .meaning) ⌝ }
+{}
+
+// Sections between stations below n make a network that is the same both ways and has no loop.
+pub fn sections_make_a_network<M: Measure>()
+    ensures { λ _. ⌜ Sections-make-a-network M ⌝ }
+{}
+
+// Every build, of any network under any settings, answers the best among all walks, as the plain query does.
+pub fn builds_answer_right<M: Measure>()
+    ensures { λ _. ⌜ Builds-answer-right (M·Measure .meaning) ⌝ }
 {}
 
 // The worked cases hold of the definitions.
