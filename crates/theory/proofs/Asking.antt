@@ -66,14 +66,14 @@ module _ {W : Type 0} (m : Meaning W) (laws : Travel-laws m) (n : ℕ) (b : Buil
       (whole, same ∙ ap₂ (m .join) rest end ∙ sym (f .whole))
 
   -- only residual stations have keys
-  forward-residual : (s x : ℕ) (k : W) → From-seed m (G (b .top)) (seed-of b s) x k → lev-of b x ≡ b .top
+  pub forward-residual : (s x : ℕ) (k : W) → From-seed m (G (b .top)) (seed-of b s) x k → lev-of b x ≡ b .top
   forward-residual s x k f =
       let (level, is) = residual-some (b .levels) (b .top) (b .labels) s (f .start) (f .weight) (f .is-seed) in
       ⊎-elim (λ (here, none). ap (lev-of b) (sym here) ∙ level)
       (λ l. let inside = on .tower .inside (b .top) (l .before) x (l .weight) (on .some-level) (omega arith) (l .is-last) .1 in omega arith)
       (last-step m laws (f .walk))
 
-  reverse-residual : (t x : ℕ) (k : W) → From-seed (turned m) (back (G (b .top))) (seed-of b t) x k → lev-of b x ≡ b .top
+  pub reverse-residual : (t x : ℕ) (k : W) → From-seed (turned m) (back (G (b .top))) (seed-of b t) x k → lev-of b x ≡ b .top
   reverse-residual t x k f =
       let (level, is) = residual-some (b .levels) (b .top) (b .labels) t (f .start) (f .weight) (f .is-seed) in
       ⊎-elim (λ (here, none). ap (lev-of b) (sym here) ∙ level)
@@ -82,7 +82,7 @@ module _ {W : Type 0} (m : Meaning W) (laws : Travel-laws m) (n : ℕ) (b : Buil
 
   module _ (s t : ℕ) (hs : s < n) (ht : t < n) where
     -- two keys of one station joined are a walk from s to t
-    meet-in : (x : ℕ) (k j : W) → From-seed m (G (b .top)) (seed-of b s) x k → From-seed (turned m) (back (G (b .top))) (seed-of b t) x j → Reaches m (G 1) s t (m .join k j)
+    pub meet-in : (x : ℕ) (k j : W) → From-seed m (G (b .top)) (seed-of b s) x k → From-seed (turned m) (back (G (b .top))) (seed-of b t) x j → Reaches m (G 1) s t (m .join k j)
     meet-in x k j f r =
         let (p, front) = forward-walk s x k hs f in
         let (q, rest) = reverse-walk t x j ht r in
@@ -122,7 +122,7 @@ module _ {W : Type 0} (m : Meaning W) (laws : Travel-laws m) (n : ℕ) (b : Buil
         lost : {c : W} → c ≡ m .no-way → No-worse m (meeting m (label-of (b .labels) s) (label-of (b .labels) t)) c
         lost e = subst (No-worse m _) (sym e) (laws .no-way-worst _)
 
-    under-way : Under-way m n (G (b .top)) (seed-of b s) (seed-of b t) (Reaches m (G 1) s t) (seeds m n (b .levels) (b .top) (label-of (b .labels) s) (label-of (b .labels) t))
+    pub under-way : Under-way m n (G (b .top)) (seed-of b s) (seed-of b t) (Reaches m (G 1) s t) (seeds m n (b .levels) (b .top) (label-of (b .labels) s) (label-of (b .labels) t))
     under-way =
         record {
           forward-ok = start-side m laws n (b .levels) (b .top) (b .labels) s (on .hubs-below s) (G (b .top));

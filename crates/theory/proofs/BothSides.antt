@@ -99,7 +99,7 @@ module _ {W : Type 0} (m : Meaning W) (laws : Travel-laws m) (n : ℕ) (R : Net 
   back-laws : Travel-laws (turned m)
   back-laws = turned-laws m laws
 
-  first-key : (xs : List (Slot W)) (v : ℕ) (k : W) → First (m .leb) 0 xs v k → key-of (slot-at xs v) ≡ Some k
+  pub first-key : (xs : List (Slot W)) (v : ℕ) (k : W) → First (m .leb) 0 xs v k → key-of (slot-at xs v) ≡ Some k
   first-key xs v k f = let at : v ≡ f .place = let e = f .is-there in omega arith in ap key-of (ap (slot-at xs) at ∙ f .waiting)
 
   -- a step on the forward side, and on the reverse one
@@ -118,12 +118,12 @@ module _ {W : Type 0} (m : Meaning W) (laws : Travel-laws m) (n : ℕ) (R : Net 
       stepped (turned m) back-laws n (back R) seed-back Kind (s .reverse) (s .forward) (s .best) (q .0) (q .1) (legs-of g (q .0)) (u .reverse-ok) f (own-back (q .0) (q .1) (u .reverse-ok .real (q .0) (q .1) (first-key (s .reverse) (q .0) (q .1) f))) (meets-back s u) (u .kind)
       (λ x a j from e. meets-in x j a (u .forward-ok .real x j e) from)
 
-  forward-way : (s : Search W) → Under-way m n R seed seed-back Kind s → (p : ℕ × W) → First (m .leb) 0 (s .forward) (p .0) (p .1) → Under-way m n R seed seed-back Kind (forward-step m g p s)
+  pub forward-way : (s : Search W) → Under-way m n R seed seed-back Kind s → (p : ℕ × W) → First (m .leb) 0 (s .forward) (p .0) (p .1) → Under-way m n R seed seed-back Kind (forward-step m g p s)
   forward-way s u p f =
       let r = goes-forward s u p f in
       record { forward-ok = r .side; reverse-ok = u .reverse-ok; meets = r .meets; kind = r .kind }
 
-  reverse-way : (s : Search W) → Under-way m n R seed seed-back Kind s → (q : ℕ × W) → First (m .leb) 0 (s .reverse) (q .0) (q .1) → Under-way m n R seed seed-back Kind (reverse-step m g q s)
+  pub reverse-way : (s : Search W) → Under-way m n R seed seed-back Kind s → (q : ℕ × W) → First (m .leb) 0 (s .reverse) (q .0) (q .1) → Under-way m n R seed seed-back Kind (reverse-step m g q s)
   reverse-way s u q f =
       let r = goes-back s u q f in
       record {

@@ -5,6 +5,7 @@ pub mod Built
 pub mod Cases
 pub mod Climbing
 pub mod Climbs
+pub mod Counting
 pub mod Covering
 pub mod Labelling
 pub mod Leasts

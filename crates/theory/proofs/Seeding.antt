@@ -110,7 +110,7 @@ module _ {W : Type 0} (m : Meaning W) (laws : Travel-laws m) (n : ℕ) (levels :
       (λ (e, h, level, at, new). inr (e .weight, new, subst (λ y. residual-entry levels top labels s y ≡ Some (e .weight)) (sym at) (some-residual levels top labels s (e .hub) (e .weight) level (entry-look e h))))
       (effect .changed x)
 
-  undone-start : (x : ℕ) → done-at (seeded m levels top (label-of labels s) (replicate n idle)) x ≡ false
+  pub undone-start : (x : ℕ) → done-at (seeded m levels top (label-of labels s) (replicate n idle)) x ≡ false
   undone-start x = effect .same-done x ∙ ap is-settled (idle-everywhere m laws n x)
 
   pub start-side : (R : Net W) → Side m n R (residual-entry levels top labels s) (seeded m levels top (label-of labels s) (replicate n idle))

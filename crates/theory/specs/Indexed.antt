@@ -1,9 +1,11 @@
 -- The indexed query over any levels and labels. Assumes nothing.
 use mathlib.Core.Path.{_≡_}
-use Prim.Native.Nat.{ℕ, _≤_, _<_}
+use Prim.Native.Nat.{ℕ, _*_, _≤_, _<_}
+use mathlib.Core.Bool.{cond}
+use lib.Dec.{eqb}
 use Rattle.std.specs.declared.option.Option.the-variants.{Some}
 use Rattle.measure.specs.Meaning.{Meaning}
-use Rattle.model.specs.Levels.{level-at, look}
+use Rattle.model.specs.Levels.{level-at, look, sum-below}
 use Rattle.model.specs.Networks.{Best, Net}
 use Rattle.model.specs.Queries.{indexed-query}
 use Rattle.model.specs.Tables.{Built, legs-of}
@@ -29,3 +31,11 @@ pub record Stands-on {W : Type 0} (m : Meaning W) (n : ℕ) (b : Built W) (G : �
 -- The indexed query answers the best among all walks of the lowest network, however the levels were picked.
 abbrev pub Indexed-is-right : {W : Type 0} → Meaning W → Type 0
 Indexed-is-right {W} m = (n : ℕ) (b : Built W) (G : ℕ → Net W) → Stands-on m n b G → (s t : ℕ) → s < n → t < n → Best m (G 1) s t (indexed-query m n b s t .cost)
+
+-- How many stations of a built index are residual.
+abbrev pub residual-of : {W : Type 0} → ℕ → Built W → ℕ
+residual-of n b = sum-below n (λ u. cond (eqb (lev-of b u) (b .top)) 1 0)
+
+-- The indexed query settles at most twice the residual stations.
+abbrev pub Settles-few : {W : Type 0} → Meaning W → Type 0
+Settles-few {W} m = (n : ℕ) (b : Built W) (G : ℕ → Net W) → Stands-on m n b G → (s t : ℕ) → s < n → t < n → indexed-query m n b s t .settled ≤ 2 * residual-of n b

@@ -1,7 +1,7 @@
 // The theorems about the definitions, each on the contract of a small function for any measure.
 ghost use Rattle.theory.specs.Ascent.{Ascent-preserves, Best-is-unique};
 ghost use Rattle.theory.specs.Building.{Builds-answer-right, Levels-answer, Levels-stand, Queries-agree, Sections-make-a-network};
-ghost use Rattle.theory.specs.Indexed.{Indexed-is-right};
+ghost use Rattle.theory.specs.Indexed.{Indexed-is-right, Settles-few};
 ghost use Rattle.theory.specs.Sides.{Plain-is-right};
 ghost use Rattle.theory.specs.Stopping.{Stop-is-right};
 ghost use Rattle.theory.specs.Towers.{Entries-are-walks, Labels-cover};
@@ -41,6 +41,11 @@ pub fn plain_is_right<M: Measure>()
 // The indexed query answers the best among all walks, over any levels and labels that stand on networks.
 pub fn indexed_is_right<M: Measure>()
     ensures { λ _. ⌜ Indexed-is-right (M·Measure .meaning) ⌝ }
+{}
+
+// The indexed query settles at most twice the residual stations.
+pub fn settles_few<M: Measure>()
+    ensures { λ _. ⌜ Settles-few (M·Measure .meaning) ⌝ }
 {}
 
 // What is built over levels that are independent in their networks stands on these networks, however they were picked.
