@@ -10,7 +10,9 @@ use Rattle.std.specs.declared.option.Option.the-variants.{None, Some}
 use Rattle.measure.specs.Meaning.{Meaning, better-of}
 use Rattle.model.specs.Lists.{stretch, tab, choose, by-some}
 use Rattle.model.specs.Networks.{Net}
-use Rattle.model.specs.Slots.{Slot, idle, waits, settled, least, settling, is-settled}
+use Rattle.model.specs.Slots.{least, settling, is-settled}
+use Rattle.model.specs.declared.slot.Slot.{Slot}
+use Rattle.model.specs.declared.slot.Slot.the-variants.{Free, Waits, Settled}
 
 -- For each station a row that says, for each other, what the section to it weighs.
 abbrev pub Grid : Type 0 → Type 0
@@ -59,17 +61,17 @@ ground n G = record { levels = replicate n 0; rows = grid-of n G }
 
 -- Who may be picked: each station of the present network waits with its number of sections.
 abbrev pub candidates : {W : Type 0} → ℕ → Stage W → List (Slot ℕ)
-candidates n t = tab n (λ u. cond (present (t .levels) u) (waits (row-count (row (t .rows) u))) idle)
+candidates n t = tab n (λ u. cond (present (t .levels) u) (Waits (row-count (row (t .rows) u))) Free)
 
 -- A station next to a picked one waits no more.
 abbrev pub barred : Slot ℕ → Slot ℕ
-barred idle = idle
-barred (waits c) = idle
-barred (settled c) = settled c
+barred Free = Free
+barred (Waits c) = Free
+barred (Settled c) = Settled c
 
 -- The slots after v was picked: its neighbours wait no more.
 abbrev pub bar-next : {W : Type 0} → ℕ → List (Option W) → List (Slot ℕ) → List (Slot ℕ)
-bar-next n cells xs = tab n (λ u. cond (isSome (getD cells u None)) (barred (getD xs u idle)) (getD xs u idle))
+bar-next n cells xs = tab n (λ u. cond (isSome (getD cells u None)) (barred (getD xs u Free)) (getD xs u Free))
 
 -- Picking: again and again the waiting station with the fewest sections, the lowest at a tie, until none waits.
 unfoldable pub picking : {W : Type 0} → ℕ → ℕ → Grid W → List (Slot ℕ) → List (Slot ℕ)
@@ -79,7 +81,7 @@ picking (suc turns) n g xs =
 
 -- Which stations are picked at a stage.
 abbrev pub picks : {W : Type 0} → ℕ → Stage W → List Bool
-picks n t = let xs = picking n n (t .rows) (candidates n t) in tab n (λ u. is-settled (getD xs u idle))
+picks n t = let xs = picking n n (t .rows) (candidates n t) in tab n (λ u. is-settled (getD xs u Free))
 
 -- The better of two weights of which either may be missing.
 abbrev pub better-some : {W : Type 0} → Meaning W → Option W → Option W → Option W

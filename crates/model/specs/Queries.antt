@@ -10,7 +10,9 @@ use Rattle.measure.specs.Meaning.{Meaning, better, better-of}
 use Rattle.model.specs.Levels.{Grid, row, level-at, grid-of}
 use Rattle.model.specs.Lists.{choose, by-some}
 use Rattle.model.specs.Networks.{Net}
-use Rattle.model.specs.Slots.{Slot, idle, waits, settled, least, settling, is-settled, key-of}
+use Rattle.model.specs.Slots.{least, settling, is-settled, key-of}
+use Rattle.model.specs.declared.slot.Slot.{Slot}
+use Rattle.model.specs.declared.slot.Slot.the-variants.{Free, Waits, Settled}
 use Rattle.model.specs.Tables.{Built, legs-of, label-of}
 use Rattle.model.specs.declared.records.Entry.{Entry}
 use Rattle.model.specs.declared.records.Leg.{Leg}
@@ -40,13 +42,13 @@ is-key m k = better m k (m .no-way)
 
 -- A key that is offered to a station improves it: it has none yet, or waits with a worse one.
 abbrev pub improves : {W : Type 0} → Meaning W → W → Slot W → Bool
-improves m k idle = is-key m k
-improves m k (waits w) = better m k w
-improves m k (settled w) = false
+improves m k Free = is-key m k
+improves m k (Waits w) = better m k w
+improves m k (Settled w) = false
 
 -- The slots after a key was offered to a station.
 abbrev pub offered : {W : Type 0} → Meaning W → ℕ → W → List (Slot W) → List (Slot W)
-offered m u k xs = cond (improves m k (getD xs u idle)) (set xs u (waits k)) xs
+offered m u k xs = cond (improves m k (getD xs u Free)) (set xs u (Waits k)) xs
 
 -- The slots after a settled station's key, joined to each of its legs, was offered to the other end.
 abbrev pub relaxed : {W : Type 0} → Meaning W → W → List (Leg W) → List (Slot W) → List (Slot W)
@@ -55,22 +57,22 @@ relaxed m k (leg ∷ legs) xs = relaxed m k legs (offered m (leg .to) (m .join k
 
 -- What the plain query answers once it stops: the key that t was settled with, or no way.
 abbrev pub arrived : {W : Type 0} → Meaning W → Slot W → W
-arrived m idle = m .no-way
-arrived m (waits w) = m .no-way
-arrived m (settled w) = w
+arrived m Free = m .no-way
+arrived m (Waits w) = m .no-way
+arrived m (Settled w) = w
 
 -- The plain search: while t is not settled and a station waits, the first is settled and its sections are relaxed.
 unfoldable pub plain-search : {W : Type 0} → Meaning W → Grid W → ℕ → ℕ → List (Slot W) → ℕ → Answer W
-plain-search m g t zero xs count = record { cost = arrived m (getD xs t idle); settled = count }
+plain-search m g t zero xs count = record { cost = arrived m (getD xs t Free); settled = count }
 plain-search m g t (suc turns) xs count =
-    choose (is-settled (getD xs t idle))
-    (λ _. record { cost = arrived m (getD xs t idle); settled = count })
-    (λ _. by-some (least (m .leb) xs) (record { cost = arrived m (getD xs t idle); settled = count })
+    choose (is-settled (getD xs t Free))
+    (λ _. record { cost = arrived m (getD xs t Free); settled = count })
+    (λ _. by-some (least (m .leb) xs) (record { cost = arrived m (getD xs t Free); settled = count })
     (λ p. plain-search m g t turns (relaxed m (p .1) (legs-of g (p .0)) (settling p xs)) (suc count)))
 
 -- The plain query from s to t over the sections of a network of n stations.
 abbrev pub plain-query : {W : Type 0} → Meaning W → ℕ → Net W → ℕ → ℕ → Answer W
-plain-query m n G s t = plain-search m (grid-of n G) t n (offered m s (m .free) (replicate n idle)) 0
+plain-query m n G s t = plain-search m (grid-of n G) t n (offered m s (m .free) (replicate n Free)) 0
 
 -- The weight of a hub in a label.
 abbrev pub entry-for : {W : Type 0} → ℕ → List (Entry W) → Option W
@@ -104,8 +106,8 @@ abbrev pub reached : {W : Type 0} → Meaning W → W → List (Leg W) → List 
 reached m k [] mine other best = (mine, best)
 reached m k (leg ∷ legs) mine other best =
     let offer = m .join k (leg .weight) in
-    cond (improves m offer (getD mine (leg .to) idle))
-    (reached m k legs (set mine (leg .to) (waits offer)) other (met m offer (getD other (leg .to) idle) best))
+    cond (improves m offer (getD mine (leg .to) Free))
+    (reached m k legs (set mine (leg .to) (Waits offer)) other (met m offer (getD other (leg .to) Free) best))
     (reached m k legs mine other best)
 
 -- The search after a station was settled on the forward side.
@@ -136,8 +138,8 @@ two-sided m g (suc turns) s =
 abbrev pub seeds : {W : Type 0} → Meaning W → ℕ → List ℕ → ℕ → List (Entry W) → List (Entry W) → Search W
 seeds m n levels top out into =
     record {
-      forward = seeded m levels top out (replicate n idle);
-      reverse = seeded m levels top into (replicate n idle);
+      forward = seeded m levels top out (replicate n Free);
+      reverse = seeded m levels top into (replicate n Free);
       best = meeting m out into;
       settled = 0;
     }

@@ -5,24 +5,20 @@ use Prim.Native.Nat.{ℕ, suc}
 use lib.ListN.{set}
 use Rattle.std.specs.declared.option.Option.{Option}
 use Rattle.std.specs.declared.option.Option.the-variants.{None, Some}
-
--- What is known of a station: nothing, the key it waits with, or the key it was settled with.
-pub data Slot (W : Type 0) : Type 0 where
-  idle : Slot W
-  waits : W → Slot W
-  settled : W → Slot W
+use Rattle.model.specs.declared.slot.Slot.{Slot}
+use Rattle.model.specs.declared.slot.Slot.the-variants.{Free, Settled, Waits}
 
 -- A waiting station and the best of those behind it: at equal keys the one in front.
-abbrev pub ahead : {W : Type 0} → (W → W → Bool) → ℕ × W → Option (ℕ × W) → Option (ℕ × W)
-ahead leb p None = Some p
-ahead leb p (Some q) = cond (leb (p .1) (q .1)) (Some p) (Some q)
+abbrev pub first-of : {W : Type 0} → (W → W → Bool) → ℕ × W → Option (ℕ × W) → Option (ℕ × W)
+first-of leb p None = Some p
+first-of leb p (Some q) = cond (leb (p .1) (q .1)) (Some p) (Some q)
 
 -- The best waiting station of slots that begin at station s.
 unfoldable pub least-from : {W : Type 0} → (W → W → Bool) → ℕ → List (Slot W) → Option (ℕ × W)
 least-from leb s [] = None
-least-from leb s (idle ∷ xs) = least-from leb (suc s) xs
-least-from leb s (waits w ∷ xs) = ahead leb (s, w) (least-from leb (suc s) xs)
-least-from leb s (settled w ∷ xs) = least-from leb (suc s) xs
+least-from leb s (Free ∷ xs) = least-from leb (suc s) xs
+least-from leb s (Waits w ∷ xs) = first-of leb (s, w) (least-from leb (suc s) xs)
+least-from leb s (Settled w ∷ xs) = least-from leb (suc s) xs
 
 -- The waiting station with the best key, the lowest station at a tie, and its key.
 abbrev pub least : {W : Type 0} → (W → W → Bool) → List (Slot W) → Option (ℕ × W)
@@ -30,16 +26,16 @@ least leb xs = least-from leb 0 xs
 
 -- The slots with that station settled.
 abbrev pub settling : {W : Type 0} → ℕ × W → List (Slot W) → List (Slot W)
-settling p xs = set xs (p .0) (settled (p .1))
+settling p xs = set xs (p .0) (Settled (p .1))
 
 -- Whether a station was settled.
 abbrev pub is-settled : {W : Type 0} → Slot W → Bool
-is-settled idle = false
-is-settled (waits w) = false
-is-settled (settled w) = true
+is-settled Free = false
+is-settled (Waits w) = false
+is-settled (Settled w) = true
 
 -- The key that a station has, waiting or settled.
 abbrev pub key-of : {W : Type 0} → Slot W → Option W
-key-of idle = None
-key-of (waits w) = Some w
-key-of (settled w) = Some w
+key-of Free = None
+key-of (Waits w) = Some w
+key-of (Settled w) = Some w

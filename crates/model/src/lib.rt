@@ -5,4 +5,5 @@ pub mod lookup;
 pub mod records;
 pub mod refusal;
 pub mod settings;
+pub mod slot;
 pub mod sound;

@@ -12,7 +12,9 @@ use Rattle.measure.specs.Meaning.{Meaning}
 use Rattle.model.specs.Levels.{level-at, look, row}
 use Rattle.model.specs.Networks.{Best, Net, Walk, cost}
 use Rattle.model.specs.Queries.{Search, entry-for, indexed-query, meeting, seeds, seeded, turned, two-sided}
-use Rattle.model.specs.Slots.{Slot, idle, key-of, waits}
+use Rattle.model.specs.Slots.{key-of}
+use Rattle.model.specs.declared.slot.Slot.{Slot}
+use Rattle.model.specs.declared.slot.Slot.the-variants.{Free, Waits}
 use Rattle.model.specs.Tables.{Built, entry, label-of, legs-of}
 use Rattle.model.specs.declared.records.Entry.{Entry}
 use Rattle.theory.specs.Indexed.{Indexed-is-right, Stands-on, lev-of}
@@ -20,7 +22,7 @@ use Rattle.theory.specs.Laws.{No-worse, Travel-laws}
 use Rattle.theory.specs.Sides.{From-seed, Legs-of, Mem, Side, key-at, keyed, slot-at}
 use Rattle.theory.specs.Towers.{By-hub, By-rest, Covered, In, back}
 use Rattle.theory.specs.TwoSided.{Under-way}
-use Rattle.theory.proofs.BothSides.{Settled, keyed-turned, search-is-right}
+use Rattle.theory.proofs.BothSides.{Ended, keyed-turned, search-is-right}
 use Rattle.theory.proofs.Climbing.{Costing}
 use Rattle.theory.proofs.Covering.{Last, append, entries-are-walks, labels-cover, last-step, sink}
 use Rattle.theory.proofs.Seeding.{entry-look, entry-look-for, look-entry-for, meeting-covers, meeting-kind, residual-entry, residual-some, seeded-turned, some-residual, start-side, start-slot}
@@ -102,13 +104,13 @@ module _ {W : Type 0} (m : Meaning W) (laws : Travel-laws m) (n : ℕ) (b : Buil
     hub-covers w a d e f =
         meeting-covers m laws (label-of (b .labels) s) (label-of (b .labels) t) (entry w a) d (has-row entry (row (b .labels) s) w a e) (look-entry-for (b .labels) t w d f)
 
-    idle-left : (f : Slot W) (c : W) → f ≡ idle → m .join (keyed m f) c ≡ m .no-way
+    idle-left : (f : Slot W) (c : W) → f ≡ Free → m .join (keyed m f) c ≡ m .no-way
     idle-left f c e = ap (λ x. m .join (keyed m x) c) e ∙ laws .no-way-left c
 
-    idle-right : (c : W) (f : Slot W) → f ≡ idle → m .join c (keyed m f) ≡ m .no-way
+    idle-right : (c : W) (f : Slot W) → f ≡ Free → m .join c (keyed m f) ≡ m .no-way
     idle-right c f e = ap (λ x. m .join c (keyed m x)) e ∙ laws .no-way-right c
 
-    start-meets : (x : ℕ) → No-worse m (meeting m (label-of (b .labels) s) (label-of (b .labels) t)) (m .join (key-at m (seeded m (b .levels) (b .top) (label-of (b .labels) s) (replicate n idle)) x) (key-at m (seeded m (b .levels) (b .top) (label-of (b .labels) t) (replicate n idle)) x))
+    start-meets : (x : ℕ) → No-worse m (meeting m (label-of (b .labels) s) (label-of (b .labels) t)) (m .join (key-at m (seeded m (b .levels) (b .top) (label-of (b .labels) s) (replicate n Free)) x) (key-at m (seeded m (b .levels) (b .top) (label-of (b .labels) t) (replicate n Free)) x))
     start-meets x =
         ⊎-elim (λ none. lost (idle-left _ _ none))
         (λ (k, is, seed). ⊎-elim (λ none. lost (idle-right _ _ none))
@@ -127,19 +129,19 @@ module _ {W : Type 0} (m : Meaning W) (laws : Travel-laws m) (n : ℕ) (b : Buil
         record {
           forward-ok = start-side m laws n (b .levels) (b .top) (b .labels) s (on .hubs-below s) (G (b .top));
           reverse-ok =
-              subst (Side (turned m) n (back (G (b .top))) (seed-of b t)) (seeded-turned m (b .levels) (b .top) (label-of (b .labels) t) (replicate n idle))
+              subst (Side (turned m) n (back (G (b .top))) (seed-of b t)) (seeded-turned m (b .levels) (b .top) (label-of (b .labels) t) (replicate n Free))
               (start-side (turned m) (turned-laws m laws) n (b .levels) (b .top) (b .labels) t (on .hubs-below t) (back (G (b .top))));
           meets = start-meets;
           kind = meeting-kind m laws (Reaches m (G 1) s t) (label-of (b .labels) s) (label-of (b .labels) t) (inl refl) hub-walk;
         }
 
-    ends : Settled m (G (b .top)) (seed-of b s) (seed-of b t) (Reaches m (G 1) s t) (meeting m (label-of (b .labels) s) (label-of (b .labels) t)) (two-sided m (b .rows) (2 * n) (seeds m n (b .levels) (b .top) (label-of (b .labels) s) (label-of (b .labels) t)))
+    ends : Ended m (G (b .top)) (seed-of b s) (seed-of b t) (Reaches m (G 1) s t) (meeting m (label-of (b .labels) s) (label-of (b .labels) t)) (two-sided m (b .rows) (2 * n) (seeds m n (b .levels) (b .top) (label-of (b .labels) s) (label-of (b .labels) t)))
     ends =
         search-is-right m laws n (G (b .top)) (b .rows) (seed-of b s) (seed-of b t) (Reaches m (G 1) s t) meet-in
         (λ v k f. on .legs v (forward-residual s v k f)) (λ v k f. on .legs-back v (reverse-residual t v k f))
         (2 * n) _ under-way
-        (let f = undone-most (seeded m (b .levels) (b .top) (label-of (b .labels) s) (replicate n idle)) in
-        let r = undone-most (seeded m (b .levels) (b .top) (label-of (b .labels) t) (replicate n idle)) in
+        (let f = undone-most (seeded m (b .levels) (b .top) (label-of (b .labels) s) (replicate n Free)) in
+        let r = undone-most (seeded m (b .levels) (b .top) (label-of (b .labels) t) (replicate n Free)) in
         let long = under-way .forward-ok .long in
         let long-back = under-way .reverse-ok .long in
         omega arith)

@@ -15,7 +15,9 @@ use Rattle.model.specs.Levels.{Grid}
 use Rattle.model.specs.Lists.{by-some, choose}
 use Rattle.model.specs.Networks.{Net, Walk, cost}
 use Rattle.model.specs.Queries.{Search, forward-step, next-step, reached, relaxed, reverse-step, turned, two-sided}
-use Rattle.model.specs.Slots.{Slot, idle, is-settled, key-of, least-from, settled, settling, waits}
+use Rattle.model.specs.Slots.{is-settled, key-of, least-from, settling}
+use Rattle.model.specs.declared.slot.Slot.{Slot}
+use Rattle.model.specs.declared.slot.Slot.the-variants.{Free, Settled, Waits}
 use Rattle.model.specs.Tables.{legs-of}
 use Rattle.model.specs.declared.records.Leg.{Leg}
 use Rattle.theory.specs.Laws.{No-worse, Travel-laws}
@@ -44,33 +46,33 @@ module _ {W : Type 0} (m : Meaning W) (laws : Travel-laws m) (n : ℕ) (R : Net 
   stepped : (mine other : List (Slot W)) (best : W) (v : ℕ) (k : W) (legs : List (Leg W)) → Side m n R seed mine → First (m .leb) 0 mine v k → Legs-of n R v legs
       → ((x : ℕ) → No-worse m best (m .join (key-at m mine x) (key-at m other x))) → Kind best
       → ((x : ℕ) (a j : W) → From-seed m R seed x a → key-of (slot-at other x) ≡ Some j → Kind (m .join a j))
-      → Stepped m n R seed Kind mine other best (reached m k legs (set mine v (settled k)) other best)
+      → Stepped m n R seed Kind mine other best (reached m k legs (set mine v (Settled k)) other best)
   stepped mine other best v k legs side first own meets old new =
       let at : v ≡ first .place = let e = first .is-there in omega arith in
       let within : v < length mine = let h = first .within in omega arith in
-      let waiting : slot-at mine v ≡ waits k = ap (slot-at mine) at ∙ first .waiting in
-      let inside : (leg : Leg W) → Mem leg legs → leg .to < length (set mine v (settled k)) = λ leg h. subst (λ j. leg .to < j) (sym (length-set mine v (settled k) ∙ side .long)) (own .sections leg h .0) in
-      let slots = reached-slots m laws k legs (set mine v (settled k)) other best in
-      let met = reached-met m laws k legs (set mine v (settled k)) other best inside (λ x. subst (λ y. No-worse m best (m .join y (key-at m other x))) (sym (same-key m laws n R seed mine side v k first x)) (meets x)) in
-      let r = relaxing m laws k legs (set mine v (settled k)) inside in
+      let waiting : slot-at mine v ≡ Waits k = ap (slot-at mine) at ∙ first .waiting in
+      let inside : (leg : Leg W) → Mem leg legs → leg .to < length (set mine v (Settled k)) = λ leg h. subst (λ j. leg .to < j) (sym (length-set mine v (Settled k) ∙ side .long)) (own .sections leg h .0) in
+      let slots = reached-slots m laws k legs (set mine v (Settled k)) other best in
+      let met = reached-met m laws k legs (set mine v (Settled k)) other best inside (λ x. subst (λ y. No-worse m best (m .join y (key-at m other x))) (sym (same-key m laws n R seed mine side v k first x)) (meets x)) in
+      let r = relaxing m laws k legs (set mine v (Settled k)) inside in
       record {
         side = subst (Side m n R seed) (sym slots) (taking-keeps m laws n R seed mine side v k first legs own);
         improved = met .improved;
-        meets = λ x. subst (λ ys. No-worse m (reached m k legs (set mine v (settled k)) other best .1) (m .join (key-at m ys x) (key-at m other x))) (sym slots) (met .meets x);
-        kind = reached-kind m laws Kind k legs (set mine v (settled k)) other best old (λ leg h j e. new (leg .to) _ j (further m laws n R seed v (leg .to) k (leg .weight) (side .real v k (ap key-of waiting)) (own .sections leg h .1)) e);
+        meets = λ x. subst (λ ys. No-worse m (reached m k legs (set mine v (Settled k)) other best .1) (m .join (key-at m ys x) (key-at m other x))) (sym slots) (met .meets x);
+        kind = reached-kind m laws Kind k legs (set mine v (Settled k)) other best old (λ leg h j e. new (leg .to) _ j (further m laws n R seed v (leg .to) k (leg .weight) (side .real v k (ap key-of waiting)) (own .sections leg h .1)) e);
         fewer = undone-set mine v k within (ap is-settled waiting) ∙ ap suc (sym (undone-same _ _ (r .long) (r .same-done))) ∙ ap (λ ys. suc (undone ys)) (sym slots);
       }
 
 -- what a search from both sides comes to: no worse than where it started, nor than any walk between seeds, and of its kind
-pub record Settled {W : Type 0} (m : Meaning W) (R : Net W) (seed seed-back : ℕ → Option W) (Kind : W → Type 0) (start : W) (s : Search W) : Type 0 where
+pub record Ended {W : Type 0} (m : Meaning W) (R : Net W) (seed seed-back : ℕ → Option W) (Kind : W → Type 0) (start : W) (s : Search W) : Type 0 where
   pub improved : No-worse m (s .best) start
   pub right : (x y : ℕ) (a b : W) → seed x ≡ Some a → seed-back y ≡ Some b → (q : Walk R y x) → No-worse m (s .best) (m .join a (m .join (cost m q) b))
   pub kind : Kind (s .best)
 
 pub keyed-turned : {W : Type 0} (m : Meaning W) (x : Slot W) → keyed (turned m) x ≡ keyed m x
-keyed-turned m idle = refl
-keyed-turned m (waits w) = refl
-keyed-turned m (settled w) = refl
+keyed-turned m Free = refl
+keyed-turned m (Waits w) = refl
+keyed-turned m (Settled w) = refl
 
 -- the least key that waits, no way where nothing waits
 abbrev least-key : {W : Type 0} → Meaning W → Option (ℕ × W) → W
@@ -83,15 +85,15 @@ module _ {W : Type 0} (m : Meaning W) (laws : Travel-laws m) where
   least-ahead xs None f z undone = by-slot (slot-at xs z) refl undone
     where
       by-slot : (x : Slot W) → slot-at xs z ≡ x → is-settled x ≡ false → No-worse m (m .no-way) (keyed m x)
-      by-slot idle e h = no-worse-refl m laws (m .no-way)
-      by-slot (waits w) e h = absurd (f z w e)
-      by-slot (settled w) e h = absurd (both-ways true h refl)
+      by-slot Free e h = no-worse-refl m laws (m .no-way)
+      by-slot (Waits w) e h = absurd (f z w e)
+      by-slot (Settled w) e h = absurd (both-ways true h refl)
   least-ahead xs (Some p) f z undone = by-slot (slot-at xs z) refl undone
     where
       by-slot : (x : Slot W) → slot-at xs z ≡ x → is-settled x ≡ false → No-worse m (p .1) (keyed m x)
-      by-slot idle e h = laws .no-way-worst (p .1)
-      by-slot (waits w) e h = f .least z w e
-      by-slot (settled w) e h = absurd (both-ways true h refl)
+      by-slot Free e h = laws .no-way-worst (p .1)
+      by-slot (Waits w) e h = f .least z w e
+      by-slot (Settled w) e h = absurd (both-ways true h refl)
 
 module _ {W : Type 0} (m : Meaning W) (laws : Travel-laws m) (n : ℕ) (R : Net W) (g : Grid W) (seed seed-back : ℕ → Option W) (Kind : W → Type 0) (meets-in : Meets-in m R seed seed-back Kind)
     (own : (v : ℕ) (k : W) → From-seed m R seed v k → Legs-of n R v (legs-of g v))
@@ -136,7 +138,7 @@ module _ {W : Type 0} (m : Meaning W) (laws : Travel-laws m) (n : ℕ) (R : Net 
       }
 
   -- at rest the best so far is right
-  rests : (s : Search W) → Under-way m n R seed seed-back Kind s → (a b : W) → ((z : ℕ) → done-at (s .forward) z ≡ false → No-worse m a (key-at m (s .forward) z)) → ((z : ℕ) → done-at (s .reverse) z ≡ false → No-worse m b (key-at (turned m) (s .reverse) z)) → No-worse m (s .best) (m .join a b) → Settled m R seed seed-back Kind (s .best) s
+  rests : (s : Search W) → Under-way m n R seed seed-back Kind s → (a b : W) → ((z : ℕ) → done-at (s .forward) z ≡ false → No-worse m a (key-at m (s .forward) z)) → ((z : ℕ) → done-at (s .reverse) z ≡ false → No-worse m b (key-at (turned m) (s .reverse) z)) → No-worse m (s .best) (m .join a b) → Ended m R seed seed-back Kind (s .best) s
   rests s u a b waiting waiting-back stops =
       record {
         improved = no-worse-refl m laws (s .best);
@@ -154,22 +156,22 @@ module _ {W : Type 0} (m : Meaning W) (laws : Travel-laws m) (n : ℕ) (R : Net 
       }
 
   -- a later end is one of an earlier start
-  from-earlier : (start later : W) (s : Search W) → No-worse m later start → Settled m R seed seed-back Kind later s → Settled m R seed seed-back Kind start s
+  from-earlier : (start later : W) (s : Search W) → No-worse m later start → Ended m R seed seed-back Kind later s → Ended m R seed seed-back Kind start s
   from-earlier start later s less e = record { improved = laws .trans _ later start (e .improved) less; right = e .right; kind = e .kind }
 
   -- where all stations of a side are settled, no key is missed
   all-done : (xs : List (Slot W)) → undone xs ≡ 0 → (z : ℕ) → done-at xs z ≡ false → No-worse m (m .no-way) (key-at m xs z)
   all-done xs none z undone-z =
       ⊎-elim (λ below. absurd (both-ways (done-at xs z) undone-z (undone-none xs none z below)))
-      (λ above. no-worse-of m laws _ _ (sym (ap (keyed m) (getD-past xs z idle above)))) (cases-lt z (length xs))
+      (λ above. no-worse-of m laws _ _ (sym (ap (keyed m) (getD-past xs z Free above)))) (cases-lt z (length xs))
 
   lost : (best : W) (c : W) → c ≡ m .no-way → No-worse m best c
   lost best c e = subst (No-worse m best) (sym e) (laws .no-way-worst best)
 
   -- one turn, where further turns go right
   module _ (turns : ℕ) (s : Search W) (u : Under-way m n R seed seed-back Kind s) (few : undone (s .forward) + undone (s .reverse) ≤ suc turns)
-      (on : (s′ : Search W) → Under-way m n R seed seed-back Kind s′ → undone (s′ .forward) + undone (s′ .reverse) ≤ turns → Settled m R seed seed-back Kind (s′ .best) (two-sided m g turns s′)) where
-    by-side : (p q : ℕ × W) → First (m .leb) 0 (s .forward) (p .0) (p .1) → First (m .leb) 0 (s .reverse) (q .0) (q .1) → (b : Bool) → Settled m R seed seed-back Kind (s .best) (two-sided m g turns (choose b (λ _. forward-step m g p s) (λ _. reverse-step m g q s)))
+      (on : (s′ : Search W) → Under-way m n R seed seed-back Kind s′ → undone (s′ .forward) + undone (s′ .reverse) ≤ turns → Ended m R seed seed-back Kind (s′ .best) (two-sided m g turns s′)) where
+    by-side : (p q : ℕ × W) → First (m .leb) 0 (s .forward) (p .0) (p .1) → First (m .leb) 0 (s .reverse) (q .0) (q .1) → (b : Bool) → Ended m R seed seed-back Kind (s .best) (two-sided m g turns (choose b (λ _. forward-step m g p s) (λ _. reverse-step m g q s)))
     by-side p q f h true =
         let r = goes-forward s u p f in
         let less = r .fewer in
@@ -179,23 +181,23 @@ module _ {W : Type 0} (m : Meaning W) (laws : Travel-laws m) (n : ℕ) (R : Net 
         let less = r .fewer in
         from-earlier (s .best) _ _ (r .improved) (on (reverse-step m g q s) (reverse-way s u q h) (omega arith))
 
-    by-stop : (p q : ℕ × W) → First (m .leb) 0 (s .forward) (p .0) (p .1) → First (m .leb) 0 (s .reverse) (q .0) (q .1) → (b : Bool) → better m (m .join (p .1) (q .1)) (s .best) ≡ b → Settled m R seed seed-back Kind (s .best) (choose b (λ _. two-sided m g turns (next-step m g p q s)) (λ _. s))
+    by-stop : (p q : ℕ × W) → First (m .leb) 0 (s .forward) (p .0) (p .1) → First (m .leb) 0 (s .reverse) (q .0) (q .1) → (b : Bool) → better m (m .join (p .1) (q .1)) (s .best) ≡ b → Ended m R seed seed-back Kind (s .best) (choose b (λ _. two-sided m g turns (next-step m g p q s)) (λ _. s))
     by-stop p q f h true e = by-side p q f h (m .leb (p .1) (q .1))
     by-stop p q f h false e =
         rests s u (p .1) (q .1) (least-ahead m laws (s .forward) (Some p) f) (least-ahead (turned m) back-laws (s .reverse) (Some q) h) (not-false (m .leb (s .best) (m .join (p .1) (q .1))) e)
 
-    by-reverse : (p : ℕ × W) → First (m .leb) 0 (s .forward) (p .0) (p .1) → (r : Option (ℕ × W)) → Found (m .leb) 0 (s .reverse) r → Settled m R seed seed-back Kind (s .best) (by-some r s (λ q. choose (better m (m .join (p .1) (q .1)) (s .best)) (λ _. two-sided m g turns (next-step m g p q s)) (λ _. s)))
+    by-reverse : (p : ℕ × W) → First (m .leb) 0 (s .forward) (p .0) (p .1) → (r : Option (ℕ × W)) → Found (m .leb) 0 (s .reverse) r → Ended m R seed seed-back Kind (s .best) (by-some r s (λ q. choose (better m (m .join (p .1) (q .1)) (s .best)) (λ _. two-sided m g turns (next-step m g p q s)) (λ _. s)))
     by-reverse p f None h =
         rests s u (p .1) (m .no-way) (least-ahead m laws (s .forward) (Some p) f) (least-ahead (turned m) back-laws (s .reverse) None h) (lost (s .best) _ (laws .no-way-right (p .1)))
     by-reverse p f (Some q) h = by-stop p q f h (better m (m .join (p .1) (q .1)) (s .best)) refl
 
-    by-forward : (r : Option (ℕ × W)) → Found (m .leb) 0 (s .forward) r → Settled m R seed seed-back Kind (s .best) (by-some r s (λ p. by-some (least-from (m .leb) 0 (s .reverse)) s (λ q. choose (better m (m .join (p .1) (q .1)) (s .best)) (λ _. two-sided m g turns (next-step m g p q s)) (λ _. s))))
+    by-forward : (r : Option (ℕ × W)) → Found (m .leb) 0 (s .forward) r → Ended m R seed seed-back Kind (s .best) (by-some r s (λ p. by-some (least-from (m .leb) 0 (s .reverse)) s (λ q. choose (better m (m .join (p .1) (q .1)) (s .best)) (λ _. two-sided m g turns (next-step m g p q s)) (λ _. s))))
     by-forward None f =
         rests s u (m .no-way) (least-key (turned m) (least-from (m .leb) 0 (s .reverse))) (least-ahead m laws (s .forward) None f) (least-ahead (turned m) back-laws (s .reverse) (least-from (m .leb) 0 (s .reverse)) (found (m .leb) (ranks m laws) 0 (s .reverse))) (lost (s .best) _ (laws .no-way-left _))
     by-forward (Some p) f = by-reverse p f (least-from (m .leb) 0 (s .reverse)) (found (m .leb) (ranks m laws) 0 (s .reverse))
 
   -- the search from both sides comes to a right end, whichever side goes when
-  pub search-is-right : (turns : ℕ) (s : Search W) → Under-way m n R seed seed-back Kind s → undone (s .forward) + undone (s .reverse) ≤ turns → Settled m R seed seed-back Kind (s .best) (two-sided m g turns s)
+  pub search-is-right : (turns : ℕ) (s : Search W) → Under-way m n R seed seed-back Kind s → undone (s .forward) + undone (s .reverse) ≤ turns → Ended m R seed seed-back Kind (s .best) (two-sided m g turns s)
   unfolding two-sided
   search-is-right zero s u few =
       rests s u (m .no-way) (m .no-way) (all-done (s .forward) (omega arith))

@@ -16,7 +16,9 @@ use Rattle.model.specs.Levels.{Grid, level-at, sum-below}
 use Rattle.model.specs.Lists.{by-some, choose}
 use Rattle.model.specs.Networks.{Net}
 use Rattle.model.specs.Queries.{Search, forward-step, indexed-query, next-step, reached, relaxed, reverse-step, seeded, seeds, turned, two-sided}
-use Rattle.model.specs.Slots.{Slot, idle, is-settled, key-of, least-from, settled, settling, waits}
+use Rattle.model.specs.Slots.{is-settled, key-of, least-from, settling}
+use Rattle.model.specs.declared.slot.Slot.{Slot}
+use Rattle.model.specs.declared.slot.Slot.the-variants.{Free, Settled, Waits}
 use Rattle.model.specs.Tables.{Built, label-of, legs-of}
 use Rattle.model.specs.declared.records.Leg.{Leg}
 use Rattle.theory.specs.Indexed.{Settles-few, Stands-on, lev-of}
@@ -58,17 +60,17 @@ settled-on n xs = sum-below n (λ u. cond (done-at xs u) 1 0)
 
 module _ {W : Type 0} (m : Meaning W) (laws : Travel-laws m) (n : ℕ) where
   -- settling one more
-  more-settled : (mine other : List (Slot W)) (best : W) (v : ℕ) (k : W) (legs : List (Leg W)) (R : Net W) → length mine ≡ n → First (m .leb) 0 mine v k → Legs-of n R v legs → settled-on n (reached m k legs (set mine v (settled k)) other best .0) ≡ suc (settled-on n mine)
+  more-settled : (mine other : List (Slot W)) (best : W) (v : ℕ) (k : W) (legs : List (Leg W)) (R : Net W) → length mine ≡ n → First (m .leb) 0 mine v k → Legs-of n R v legs → settled-on n (reached m k legs (set mine v (Settled k)) other best .0) ≡ suc (settled-on n mine)
   more-settled mine other best v k legs R long first own =
       let at : v ≡ first .place = let e = first .is-there in omega arith in
       let within : v < length mine = let h = first .within in omega arith in
-      let waiting : slot-at mine v ≡ waits k = ap (slot-at mine) at ∙ first .waiting in
-      let r = relaxing m laws k legs (set mine v (settled k)) (λ l h. subst (λ j. l .to < j) (sym (length-set mine v (settled k) ∙ long)) (own .sections l h .0)) in
-      let slots = reached-slots m laws k legs (set mine v (settled k)) other best in
-      let done : (u : ℕ) → done-at (reached m k legs (set mine v (settled k)) other best .0) u ≡ done-at (set mine v (settled k)) u = λ u. ap (λ ys. done-at ys u) slots ∙ r .same-done u in
-      sum-one-more n (λ u. cond (done-at mine u) 1 0) (λ u. cond (done-at (reached m k legs (set mine v (settled k)) other best .0) u) 1 0) v (omega arith)
-      (ap (λ b. cond b 1 0) (done v ∙ ap is-settled (getD-set-same mine v (settled k) idle within)) ∙ sym (ap (λ b. suc (cond b 1 0)) (ap is-settled waiting)))
-      (λ u apart. ap (λ b. cond b 1 0) (done u ∙ ap is-settled (getD-set-other mine v u (settled k) idle apart)))
+      let waiting : slot-at mine v ≡ Waits k = ap (slot-at mine) at ∙ first .waiting in
+      let r = relaxing m laws k legs (set mine v (Settled k)) (λ l h. subst (λ j. l .to < j) (sym (length-set mine v (Settled k) ∙ long)) (own .sections l h .0)) in
+      let slots = reached-slots m laws k legs (set mine v (Settled k)) other best in
+      let done : (u : ℕ) → done-at (reached m k legs (set mine v (Settled k)) other best .0) u ≡ done-at (set mine v (Settled k)) u = λ u. ap (λ ys. done-at ys u) slots ∙ r .same-done u in
+      sum-one-more n (λ u. cond (done-at mine u) 1 0) (λ u. cond (done-at (reached m k legs (set mine v (Settled k)) other best .0) u) 1 0) v (omega arith)
+      (ap (λ b. cond b 1 0) (done v ∙ ap is-settled (getD-set-same mine v (Settled k) Free within)) ∙ sym (ap (λ b. suc (cond b 1 0)) (ap is-settled waiting)))
+      (λ u apart. ap (λ b. cond b 1 0) (done u ∙ ap is-settled (getD-set-other mine v u (Settled k) Free apart)))
 
 module _ {W : Type 0} (m : Meaning W) (laws : Travel-laws m) (n : ℕ) (R : Net W) (g : Grid W) (seed seed-back : ℕ → Option W) (Kind : W → Type 0) (meets-in : Meets-in m R seed seed-back Kind)
     (own : (v : ℕ) (k : W) → From-seed m R seed v k → Legs-of n R v (legs-of g v))
@@ -121,9 +123,9 @@ few-settled n xs test each = sum-most n _ _ (λ u h. at u (done-at xs u) refl)
     at u false is = omega arith
 
 key-of-done : {W : Type 0} (x : Slot W) → is-settled x ≡ true → (k : W) × (key-of x ≡ Some k)
-key-of-done idle e = absurd (both-ways false refl e)
-key-of-done (waits w) e = absurd (both-ways false refl e)
-key-of-done (settled w) e = (w, refl)
+key-of-done Free e = absurd (both-ways false refl e)
+key-of-done (Waits w) e = absurd (both-ways false refl e)
+key-of-done (Settled w) e = (w, refl)
 
 none-settled : (n : ℕ) {W : Type 0} (xs : List (Slot W)) → ((u : ℕ) → done-at xs u ≡ false) → settled-on n xs ≡ 0
 unfolding sum-below

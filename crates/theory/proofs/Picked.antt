@@ -16,7 +16,9 @@ use Rattle.std.specs.declared.option.Option.the-variants.{None, Some}
 use Rattle.model.proofs.Laying.{length-tab}
 use Rattle.model.specs.Levels.{Grid, Stage, bar-next, barred, candidates, is-picked, look, picking, picks, present, row, row-count}
 use Rattle.model.specs.Lists.{by-some, tab}
-use Rattle.model.specs.Slots.{Slot, idle, is-settled, least-from, settled, settling, waits}
+use Rattle.model.specs.Slots.{is-settled, least-from, settling}
+use Rattle.model.specs.declared.slot.Slot.{Slot}
+use Rattle.model.specs.declared.slot.Slot.the-variants.{Free, Settled, Waits}
 use Rattle.theory.specs.Sides.{done-at, slot-at}
 use Rattle.theory.proofs.Leasts.{First, Found, Ranks, found}
 use Rattle.theory.proofs.Tabs.{getD-tab, getD-tab-past, none-some}
@@ -33,22 +35,22 @@ module _ {W : Type 0} (n : ℕ) (t : Stage W) (sound : Sound-stage n t) where
   -- what picking keeps: settled stations are joined to none that is settled or waits, and all of them go on
   pub record Apart (xs : List (Slot ℕ)) : Type 0 where
     pub settled-apart : (u v : ℕ) (a : W) → done-at xs u ≡ true → done-at xs v ≡ true → look (t .rows) u v ≡ Some a → ⊥
-    pub waiting-apart : (u v k : ℕ) (a : W) → done-at xs u ≡ true → slot-at xs v ≡ waits k → look (t .rows) u v ≡ Some a → ⊥
+    pub waiting-apart : (u v k : ℕ) (a : W) → done-at xs u ≡ true → slot-at xs v ≡ Waits k → look (t .rows) u v ≡ Some a → ⊥
     pub settled-present : (u : ℕ) → done-at xs u ≡ true → present (t .levels) u ≡ true
-    pub waiting-present : (u k : ℕ) → slot-at xs u ≡ waits k → present (t .levels) u ≡ true
+    pub waiting-present : (u k : ℕ) → slot-at xs u ≡ Waits k → present (t .levels) u ≡ true
 
-  start-slot-is : (u : ℕ) → (slot-at (candidates n t) u ≡ idle) ⊎ ((present (t .levels) u ≡ true) × (slot-at (candidates n t) u ≡ waits (row-count (row (t .rows) u))))
+  start-slot-is : (u : ℕ) → (slot-at (candidates n t) u ≡ Free) ⊎ ((present (t .levels) u ≡ true) × (slot-at (candidates n t) u ≡ Waits (row-count (row (t .rows) u))))
   start-slot-is u =
-      ⊎-elim (λ below. by-test (present (t .levels) u) refl (getD-tab n _ u idle below)) (λ above. inl (getD-tab-past n _ u idle above)) (cases-lt u n)
+      ⊎-elim (λ below. by-test (present (t .levels) u) refl (getD-tab n _ u Free below)) (λ above. inl (getD-tab-past n _ u Free above)) (cases-lt u n)
     where
-      by-test : (b : Bool) → present (t .levels) u ≡ b → slot-at (candidates n t) u ≡ cond (present (t .levels) u) (waits (row-count (row (t .rows) u))) idle → (slot-at (candidates n t) u ≡ idle) ⊎ ((present (t .levels) u ≡ true) × (slot-at (candidates n t) u ≡ waits (row-count (row (t .rows) u))))
-      by-test true is e = inr (is, e ∙ ap (λ b. cond b (waits (row-count (row (t .rows) u))) idle) is)
-      by-test false is e = inl (e ∙ ap (λ b. cond b (waits (row-count (row (t .rows) u))) idle) is)
+      by-test : (b : Bool) → present (t .levels) u ≡ b → slot-at (candidates n t) u ≡ cond (present (t .levels) u) (Waits (row-count (row (t .rows) u))) Free → (slot-at (candidates n t) u ≡ Free) ⊎ ((present (t .levels) u ≡ true) × (slot-at (candidates n t) u ≡ Waits (row-count (row (t .rows) u))))
+      by-test true is e = inr (is, e ∙ ap (λ b. cond b (Waits (row-count (row (t .rows) u))) Free) is)
+      by-test false is e = inl (e ∙ ap (λ b. cond b (Waits (row-count (row (t .rows) u))) Free) is)
 
-  idle-not-waits : (k : ℕ) → idle ≡ waits k → ⊥
+  idle-not-waits : (k : ℕ) → Free ≡ Waits k → ⊥
   idle-not-waits k e = let z : _≡_ {A = ℕ} 0 1 = cc in absurd (omega arith)
 
-  settled-not-waits : (j k : ℕ) → settled j ≡ waits k → ⊥
+  settled-not-waits : (j k : ℕ) → Settled j ≡ Waits k → ⊥
   settled-not-waits j k e = let z : _≡_ {A = ℕ} 0 1 = cc in absurd (omega arith)
 
   start-undone : (u : ℕ) → done-at (candidates n t) u ≡ true → ⊥
@@ -65,49 +67,49 @@ module _ {W : Type 0} (n : ℕ) (t : Stage W) (sound : Sound-stage n t) where
 
   -- barring keeps what is settled, and what still waits waited before
   barred-done : (x : Slot ℕ) → is-settled (barred x) ≡ is-settled x
-  barred-done idle = refl
-  barred-done (waits k) = refl
-  barred-done (settled k) = refl
+  barred-done Free = refl
+  barred-done (Waits k) = refl
+  barred-done (Settled k) = refl
 
-  barred-waits : (x : Slot ℕ) (k : ℕ) → barred x ≡ waits k → ⊥
-  barred-waits idle k e = idle-not-waits k e
-  barred-waits (waits j) k e = idle-not-waits k e
-  barred-waits (settled j) k e = settled-not-waits j k e
+  barred-waits : (x : Slot ℕ) (k : ℕ) → barred x ≡ Waits k → ⊥
+  barred-waits Free k e = idle-not-waits k e
+  barred-waits (Waits j) k e = idle-not-waits k e
+  barred-waits (Settled j) k e = settled-not-waits j k e
 
   module _ (xs : List (Slot ℕ)) (apart : Apart xs) (v d : ℕ) (first : First leb 0 xs v d) where
     at-place : v ≡ first .place
     at-place = let e = first .is-there in omega arith
 
-    waiting : slot-at xs v ≡ waits d
+    waiting : slot-at xs v ≡ Waits d
     waiting = ap (slot-at xs) at-place ∙ first .waiting
 
-    there : slot-at (set xs v (settled d)) v ≡ settled d
-    there = getD-set-same xs v (settled d) idle (let e = at-place in let h = first .within in omega arith)
+    there : slot-at (set xs v (Settled d)) v ≡ Settled d
+    there = getD-set-same xs v (Settled d) Free (let e = at-place in let h = first .within in omega arith)
 
-    done-before : (u : ℕ) → done-at (bar-next n (row (t .rows) v) (set xs v (settled d))) u ≡ true → (u ≡ v) ⊎ (done-at xs u ≡ true)
+    done-before : (u : ℕ) → done-at (bar-next n (row (t .rows) v) (set xs v (Settled d))) u ≡ true → (u ≡ v) ⊎ (done-at xs u ≡ true)
     done-before u done =
         ⊎-elim
         (λ below. ⊎-elim inl
-        (λ other. inr (sym (ap is-settled (getD-set-other xs v u (settled d) idle other)) ∙ sym (same below) ∙ done)) (cases-eq u v))
-        (λ above. absurd (both-ways _ (ap is-settled (getD-tab-past n _ u idle above)) done)) (cases-lt u n)
+        (λ other. inr (sym (ap is-settled (getD-set-other xs v u (Settled d) Free other)) ∙ sym (same below) ∙ done)) (cases-eq u v))
+        (λ above. absurd (both-ways _ (ap is-settled (getD-tab-past n _ u Free above)) done)) (cases-lt u n)
       where
         kept : (b : Bool) (x : Slot ℕ) → is-settled (cond b (barred x) x) ≡ is-settled x
         kept true x = barred-done x
         kept false x = refl
 
-        same : u < n → done-at (bar-next n (row (t .rows) v) (set xs v (settled d))) u ≡ done-at (set xs v (settled d)) u
-        same below = ap is-settled (getD-tab n _ u idle below) ∙ kept (isSome (getD (row (t .rows) v) u None)) (slot-at (set xs v (settled d)) u)
+        same : u < n → done-at (bar-next n (row (t .rows) v) (set xs v (Settled d))) u ≡ done-at (set xs v (Settled d)) u
+        same below = ap is-settled (getD-tab n _ u Free below) ∙ kept (isSome (getD (row (t .rows) v) u None)) (slot-at (set xs v (Settled d)) u)
 
-    waits-before : (u k : ℕ) → slot-at (bar-next n (row (t .rows) v) (set xs v (settled d))) u ≡ waits k → (slot-at xs u ≡ waits k) × (isSome (look (t .rows) v u) ≡ false)
+    waits-before : (u k : ℕ) → slot-at (bar-next n (row (t .rows) v) (set xs v (Settled d))) u ≡ Waits k → (slot-at xs u ≡ Waits k) × (isSome (look (t .rows) v u) ≡ false)
     waits-before u k e =
-        ⊎-elim (λ below. by-test (isSome (look (t .rows) v u)) refl (sym (getD-tab n _ u idle below) ∙ e)) (λ above. absurd (idle-not-waits k (sym (getD-tab-past n _ u idle above) ∙ e))) (cases-lt u n)
+        ⊎-elim (λ below. by-test (isSome (look (t .rows) v u)) refl (sym (getD-tab n _ u Free below) ∙ e)) (λ above. absurd (idle-not-waits k (sym (getD-tab-past n _ u Free above) ∙ e))) (cases-lt u n)
       where
-        by-test : (b : Bool) → isSome (look (t .rows) v u) ≡ b → cond (isSome (look (t .rows) v u)) (barred (slot-at (set xs v (settled d)) u)) (slot-at (set xs v (settled d)) u) ≡ waits k → (slot-at xs u ≡ waits k) × (isSome (look (t .rows) v u) ≡ false)
-        by-test true is h = absurd (barred-waits (slot-at (set xs v (settled d)) u) k (sym (ap (λ b. cond b (barred (slot-at (set xs v (settled d)) u)) (slot-at (set xs v (settled d)) u)) is) ∙ h))
+        by-test : (b : Bool) → isSome (look (t .rows) v u) ≡ b → cond (isSome (look (t .rows) v u)) (barred (slot-at (set xs v (Settled d)) u)) (slot-at (set xs v (Settled d)) u) ≡ Waits k → (slot-at xs u ≡ Waits k) × (isSome (look (t .rows) v u) ≡ false)
+        by-test true is h = absurd (barred-waits (slot-at (set xs v (Settled d)) u) k (sym (ap (λ b. cond b (barred (slot-at (set xs v (Settled d)) u)) (slot-at (set xs v (Settled d)) u)) is) ∙ h))
         by-test false is h =
-            let still : slot-at (set xs v (settled d)) u ≡ waits k = sym (ap (λ b. cond b (barred (slot-at (set xs v (settled d)) u)) (slot-at (set xs v (settled d)) u)) is) ∙ h in
-            let other : u ≢ v = λ same. settled-not-waits d k (sym there ∙ ap (slot-at (set xs v (settled d))) (sym same) ∙ still) in
-            (sym (getD-set-other xs v u (settled d) idle other) ∙ still, is)
+            let still : slot-at (set xs v (Settled d)) u ≡ Waits k = sym (ap (λ b. cond b (barred (slot-at (set xs v (Settled d)) u)) (slot-at (set xs v (Settled d)) u)) is) ∙ h in
+            let other : u ≢ v = λ same. settled-not-waits d k (sym there ∙ ap (slot-at (set xs v (Settled d))) (sym same) ∙ still) in
+            (sym (getD-set-other xs v u (Settled d) Free other) ∙ still, is)
 
     here-present : present (t .levels) v ≡ true
     here-present = apart .waiting-present v d waiting
@@ -115,7 +117,7 @@ module _ {W : Type 0} (n : ℕ) (t : Stage W) (sound : Sound-stage n t) where
     some-is : (u : ℕ) (a : W) → look (t .rows) v u ≡ Some a → isSome (look (t .rows) v u) ≡ false → ⊥
     some-is u a e none = both-ways _ none (ap isSome e)
 
-    apart-next : Apart (bar-next n (row (t .rows) v) (set xs v (settled d)))
+    apart-next : Apart (bar-next n (row (t .rows) v) (set xs v (Settled d)))
     apart-next =
         record {
           settled-apart = λ u w a hu hw e.

@@ -17,7 +17,9 @@ use Rattle.model.specs.Levels.{grid-of}
 use Rattle.model.specs.Lists.{by-some, choose}
 use Rattle.model.specs.Networks.{Best, Net, Walk, stop, step, cost}
 use Rattle.model.specs.Queries.{Answer, arrived, offered, plain-search, relaxed}
-use Rattle.model.specs.Slots.{Slot, idle, is-settled, key-of, least-from, settled, settling, waits}
+use Rattle.model.specs.Slots.{is-settled, key-of, least-from, settling}
+use Rattle.model.specs.declared.slot.Slot.{Slot}
+use Rattle.model.specs.declared.slot.Slot.the-variants.{Free, Settled, Waits}
 use Rattle.model.specs.Tables.{legs-of}
 use Rattle.theory.specs.Laws.{No-worse, Travel-laws}
 use Rattle.theory.specs.Sides.{Bounded, From-seed, Legs-of, Plain-is-right, Side, done-at, key-at, keyed, slot-at}
@@ -37,21 +39,21 @@ module _ {W : Type 0} (m : Meaning W) (laws : Travel-laws m) where
   pub ranks : Ranks (m .leb)
   ranks = record { total = laws .total; trans = laws .trans }
 
-  pub idle-everywhere : (n x : ℕ) → slot-at (replicate {A = Slot W} n idle) x ≡ idle
+  pub idle-everywhere : (n x : ℕ) → slot-at (replicate {A = Slot W} n Free) x ≡ Free
   idle-everywhere n x =
-      ⊎-elim (λ below. getD-replicate n x idle idle below) (λ above. getD-past (replicate n idle) x idle (subst (λ k. k ≤ x) (sym (length-replicate n idle)) above)) (cases-lt x n)
+      ⊎-elim (λ below. getD-replicate n x Free Free below) (λ above. getD-past (replicate n Free) x Free (subst (λ k. k ≤ x) (sym (length-replicate n Free)) above)) (cases-lt x n)
 
   module _ (n : ℕ) (G : Net W) (bounded : Bounded n G) (s t : ℕ) (hs : s < n) (ht : t < n) where
-    started : Side m n G (only m s) (offered m s (m .free) (replicate n idle))
+    started : Side m n G (only m s) (offered m s (m .free) (replicate n Free))
     started =
-        let long : length (replicate {A = Slot W} n idle) ≡ n = length-replicate n idle in
-        let o = offering m laws s (m .free) (replicate n idle) (subst (λ k. s < k) (sym long) hs) in
-        let never : (x : ℕ) → done-at (offered m s (m .free) (replicate n idle)) x ≡ true → ⊥ = λ x h. both-ways _ (o .same-done x ∙ ap is-settled (idle-everywhere n x)) h in
+        let long : length (replicate {A = Slot W} n Free) ≡ n = length-replicate n Free in
+        let o = offering m laws s (m .free) (replicate n Free) (subst (λ k. s < k) (sym long) hs) in
+        let never : (x : ℕ) → done-at (offered m s (m .free) (replicate n Free)) x ≡ true → ⊥ = λ x h. both-ways _ (o .same-done x ∙ ap is-settled (idle-everywhere n x)) h in
         record {
           long = o .long ∙ long;
           seeded = λ x a e.
               let (here, free) = read-passed (eqb x s) (m .free) a e in
-              subst (No-worse m _) free (subst (λ y. No-worse m (key-at m (offered m s (m .free) (replicate n idle)) y) (m .free)) (sym (eqb-true x s here)) (o .reached (λ h. absurd (both-ways _ (ap is-settled (idle-everywhere n s)) h))));
+              subst (No-worse m _) free (subst (λ y. No-worse m (key-at m (offered m s (m .free) (replicate n Free)) y) (m .free)) (sym (eqb-true x s here)) (o .reached (λ h. absurd (both-ways _ (ap is-settled (idle-everywhere n s)) h))));
           relaxed = λ x u a done e. absurd (never x done);
           in-order = λ x z done undone. absurd (never x done);
           real = λ x k e.
@@ -85,25 +87,25 @@ module _ {W : Type 0} (m : Meaning W) (laws : Travel-laws m) where
         (f .walk, sym (f .whole ∙ ap (λ w. m .join w (cost m (f .walk))) (sym free) ∙ laws .free-left (cost m (f .walk))))
 
     -- once t is settled, or nothing waits, the answer is the best
-    finish : (xs : List (Slot W)) → Side m n G (only m s) xs → (done-at xs t ≡ true) ⊎ ((z : ℕ) (w : W) → slot-at xs z ≡ waits w → ⊥) → (x : Slot W) → slot-at xs t ≡ x → Best m G s t (arrived m x)
-    finish xs side over (settled w) e =
+    finish : (xs : List (Slot W)) → Side m n G (only m s) xs → (done-at xs t ≡ true) ⊎ ((z : ℕ) (w : W) → slot-at xs z ≡ Waits w → ⊥) → (x : Slot W) → slot-at xs t ≡ x → Best m G s t (arrived m x)
+    finish xs side over (Settled w) e =
         let key : key-at m xs t ≡ w = ap (keyed m) e in
         record {
           none-better = none-better xs side w (λ z undone. subst (λ k. No-worse m k (key-at m xs z)) key (side .in-order t z (ap is-settled e) undone)) (no-worse-of m laws _ _ (sym key));
           reached = inr (walk-of t w (side .real t w (ap key-of e)));
         }
-    finish xs side over idle e =
-        let none : (z : ℕ) (w : W) → slot-at xs z ≡ waits w → ⊥ = ⊎-elim (λ done. absurd (both-ways (done-at xs t) (ap is-settled e) done)) (λ h. h) over in
+    finish xs side over Free e =
+        let none : (z : ℕ) (w : W) → slot-at xs z ≡ Waits w → ⊥ = ⊎-elim (λ done. absurd (both-ways (done-at xs t) (ap is-settled e) done)) (λ h. h) over in
         record {
           none-better = none-better xs side (m .no-way) (λ z undone. keyless xs none z (slot-at xs z) refl undone) (no-worse-of m laws _ _ (sym (ap (keyed m) e)));
           reached = inl refl;
         }
       where
-        keyless : (ys : List (Slot W)) → ((z : ℕ) (w : W) → slot-at ys z ≡ waits w → ⊥) → (z : ℕ) (x : Slot W) → slot-at ys z ≡ x → is-settled x ≡ false → No-worse m (m .no-way) (keyed m x)
-        keyless ys none z idle h undone = no-worse-of m laws _ _ refl
-        keyless ys none z (waits w) h undone = absurd (none z w h)
-        keyless ys none z (settled w) h undone = absurd (both-ways true undone refl)
-    finish xs side over (waits w) e =
+        keyless : (ys : List (Slot W)) → ((z : ℕ) (w : W) → slot-at ys z ≡ Waits w → ⊥) → (z : ℕ) (x : Slot W) → slot-at ys z ≡ x → is-settled x ≡ false → No-worse m (m .no-way) (keyed m x)
+        keyless ys none z Free h undone = no-worse-of m laws _ _ refl
+        keyless ys none z (Waits w) h undone = absurd (none z w h)
+        keyless ys none z (Settled w) h undone = absurd (both-ways true undone refl)
+    finish xs side over (Waits w) e =
         absurd (⊎-elim (λ done. both-ways (done-at xs t) (ap is-settled e) done) (λ none. none t w e) over)
 
     own-legs : (v : ℕ) → v < n → Legs-of n G v (legs-of (grid-of n G) v)
@@ -111,11 +113,11 @@ module _ {W : Type 0} (m : Meaning W) (laws : Travel-laws m) where
         record { sections = λ leg h. grid-leg n G v leg hv h; all = λ u a e. has-grid-leg n G v u a hv (bounded v u a e .1) e }
 
     -- one station less is left to settle
-    fewer : (xs : List (Slot W)) (v : ℕ) (k : W) → length xs ≡ n → First (m .leb) 0 xs v k → undone xs ≡ suc (undone (relaxed m k (legs-of (grid-of n G) v) (set xs v (settled k))))
+    fewer : (xs : List (Slot W)) (v : ℕ) (k : W) → length xs ≡ n → First (m .leb) 0 xs v k → undone xs ≡ suc (undone (relaxed m k (legs-of (grid-of n G) v) (set xs v (Settled k))))
     fewer xs v k long first =
         let at : v ≡ first .place = let e = first .is-there in omega arith in
         let within : v < length xs = let h = first .within in omega arith in
-        let r = relaxing m laws k (legs-of (grid-of n G) v) (set xs v (settled k)) (λ leg h. subst (λ j. leg .to < j) (sym (length-set xs v (settled k) ∙ long)) (grid-leg n G v leg (omega arith) h .0)) in
+        let r = relaxing m laws k (legs-of (grid-of n G) v) (set xs v (Settled k)) (λ leg h. subst (λ j. leg .to < j) (sym (length-set xs v (Settled k) ∙ long)) (grid-leg n G v leg (omega arith) h .0)) in
         undone-set xs v k within (ap is-settled (ap (slot-at xs) at ∙ first .waiting)) ∙ ap suc (sym (undone-same _ _ (r .long) (r .same-done)))
 
     -- one turn of the search, where further turns go right
@@ -141,4 +143,4 @@ module _ {W : Type 0} (m : Meaning W) (laws : Travel-laws m) where
 pub plain-is-right : {W : Type 0} (m : Meaning W) → Travel-laws m → Plain-is-right m
 plain-is-right m laws n G bounded s t hs ht =
     let side = started m laws n G bounded s t hs ht in
-    run m laws n G bounded s t hs ht n _ 0 side (subst (λ k. undone (offered m s (m .free) (replicate n idle)) ≤ k) (side .long) (undone-most _))
+    run m laws n G bounded s t hs ht n _ 0 side (subst (λ k. undone (offered m s (m .free) (replicate n Free)) ≤ k) (side .long) (undone-most _))

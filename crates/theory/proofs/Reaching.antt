@@ -9,7 +9,9 @@ use lib.Seq.{getD-set-other, getD-set-same}
 use Rattle.std.proofs.shelf.Tests.{cases-eq, cond-both, cond-false, cond-true}
 use Rattle.measure.specs.Meaning.{Meaning, better-of}
 use Rattle.model.specs.Queries.{improves, met, offered, reached, relaxed}
-use Rattle.model.specs.Slots.{Slot, idle, key-of, settled, waits}
+use Rattle.model.specs.Slots.{key-of}
+use Rattle.model.specs.declared.slot.Slot.{Slot}
+use Rattle.model.specs.declared.slot.Slot.the-variants.{Free, Settled, Waits}
 use Rattle.std.specs.declared.option.Option.the-variants.{Some}
 use Rattle.model.specs.declared.records.Leg.{Leg}
 use Rattle.theory.specs.Laws.{No-worse, Travel-laws}
@@ -54,26 +56,26 @@ module _ {W : Type 0} (m : Meaning W) (laws : Travel-laws m) where
       cond-first (improves m (m .join k (leg .weight)) (slot-at mine (leg .to))) _ _ (relaxed m k legs) _ _ (reached-slots k legs _ other _) (reached-slots k legs mine other best)
 
   met-improved : (k : W) (o : Slot W) (best : W) → No-worse m (met m k o best) best
-  met-improved k idle best = no-worse-refl m laws best
-  met-improved k (waits r) best = better-left m laws best (m .join k r)
-  met-improved k (settled r) best = better-left m laws best (m .join k r)
+  met-improved k Free best = no-worse-refl m laws best
+  met-improved k (Waits r) best = better-left m laws best (m .join k r)
+  met-improved k (Settled r) best = better-left m laws best (m .join k r)
 
   met-joined : (k : W) (o : Slot W) (best : W) → No-worse m (met m k o best) (m .join k (keyed m o))
-  met-joined k idle best = subst (No-worse m best) (sym (laws .no-way-right k)) (laws .no-way-worst best)
-  met-joined k (waits r) best = better-right m laws best (m .join k r)
-  met-joined k (settled r) best = better-right m laws best (m .join k r)
+  met-joined k Free best = subst (No-worse m best) (sym (laws .no-way-right k)) (laws .no-way-worst best)
+  met-joined k (Waits r) best = better-right m laws best (m .join k r)
+  met-joined k (Settled r) best = better-right m laws best (m .join k r)
 
   met-kind : (Kind : W → Type 0) (k : W) (o : Slot W) (best : W) → Kind best → ((j : W) → key-of o ≡ Some j → Kind (m .join k j)) → Kind (met m k o best)
-  met-kind Kind k idle best old new = old
-  met-kind Kind k (waits r) best old new = better-either m laws Kind best (m .join k r) old (new r refl)
-  met-kind Kind k (settled r) best old new = better-either m laws Kind best (m .join k r) old (new r refl)
+  met-kind Kind k Free best old new = old
+  met-kind Kind k (Waits r) best old new = better-either m laws Kind best (m .join k r) old (new r refl)
+  met-kind Kind k (Settled r) best old new = better-either m laws Kind best (m .join k r) old (new r refl)
 
   -- the best so far keeps its promise
   pub reached-met : (k : W) (legs : List (Leg W)) (mine other : List (Slot W)) (best : W) → ((leg : Leg W) → Mem leg legs → leg .to < length mine) → ((x : ℕ) → No-worse m best (m .join (key-at m mine x) (key-at m other x))) → Met m (relaxed m k legs mine) other best (reached m k legs mine other best .1)
   reached-met k [] mine other best within meets = record { improved = no-worse-refl m laws best; meets = meets }
   reached-met k (leg ∷ legs) mine other best within meets =
       cond-both-parts (improves m offer (slot-at mine (leg .to))) _ _ _ _ (λ xs after. Met m (relaxed m k legs xs) other best after)
-      (further (reached-met k legs (set mine (leg .to) (waits offer)) other (met m offer (slot-at other (leg .to)) best) (λ l h. subst (λ j. l .to < j) (sym (length-set mine (leg .to) (waits offer))) (within l (inr h))) here))
+      (further (reached-met k legs (set mine (leg .to) (Waits offer)) other (met m offer (slot-at other (leg .to)) best) (λ l h. subst (λ j. l .to < j) (sym (length-set mine (leg .to) (Waits offer))) (within l (inr h))) here))
       (reached-met k legs mine other best (λ l h. within l (inr h)) meets)
     where
       offer : W
@@ -82,13 +84,13 @@ module _ {W : Type 0} (m : Meaning W) (laws : Travel-laws m) where
       further : {xs : List (Slot W)} {after : W} → Met m xs other (met m (m .join k (leg .weight)) (slot-at other (leg .to)) best) after → Met m xs other best after
       further l = record { improved = laws .trans _ _ _ (l .improved) (met-improved (m .join k (leg .weight)) (slot-at other (leg .to)) best); meets = l .meets }
 
-      here : (x : ℕ) → No-worse m (met m (m .join k (leg .weight)) (slot-at other (leg .to)) best) (m .join (key-at m (set mine (leg .to) (waits (m .join k (leg .weight)))) x) (key-at m other x))
+      here : (x : ℕ) → No-worse m (met m (m .join k (leg .weight)) (slot-at other (leg .to)) best) (m .join (key-at m (set mine (leg .to) (Waits (m .join k (leg .weight)))) x) (key-at m other x))
       here x =
           ⊎-elim
-          (λ same. subst (λ y. No-worse m (met m (m .join k (leg .weight)) (slot-at other (leg .to)) best) (m .join (key-at m (set mine (leg .to) (waits (m .join k (leg .weight)))) y) (key-at m other y))) (sym same)
-          (subst (λ y. No-worse m (met m (m .join k (leg .weight)) (slot-at other (leg .to)) best) (m .join (keyed m y) (key-at m other (leg .to)))) (sym (getD-set-same mine (leg .to) (waits (m .join k (leg .weight))) idle (within leg (inl refl)))) (met-joined (m .join k (leg .weight)) (slot-at other (leg .to)) best)))
+          (λ same. subst (λ y. No-worse m (met m (m .join k (leg .weight)) (slot-at other (leg .to)) best) (m .join (key-at m (set mine (leg .to) (Waits (m .join k (leg .weight)))) y) (key-at m other y))) (sym same)
+          (subst (λ y. No-worse m (met m (m .join k (leg .weight)) (slot-at other (leg .to)) best) (m .join (keyed m y) (key-at m other (leg .to)))) (sym (getD-set-same mine (leg .to) (Waits (m .join k (leg .weight))) Free (within leg (inl refl)))) (met-joined (m .join k (leg .weight)) (slot-at other (leg .to)) best)))
           (λ apart. laws .trans _ _ _ (met-improved (m .join k (leg .weight)) (slot-at other (leg .to)) best)
-          (subst (λ y. No-worse m best (m .join (keyed m y) (key-at m other x))) (sym (getD-set-other mine (leg .to) x (waits (m .join k (leg .weight))) idle apart)) (meets x)))
+          (subst (λ y. No-worse m best (m .join (keyed m y) (key-at m other x))) (sym (getD-set-other mine (leg .to) x (Waits (m .join k (leg .weight))) Free apart)) (meets x)))
           (cases-eq x (leg .to))
 
   -- and its kind, where each offer joined to a key of the other side is of that kind

@@ -9,7 +9,9 @@ use lib.Seq.{getD-set-other, getD-set-same}
 use Rattle.std.proofs.shelf.Tests.{both-ways, cases-eq, cond-both, not-false, not-true}
 use Rattle.measure.specs.Meaning.{Meaning, better}
 use Rattle.model.specs.Queries.{improves, is-key, offered, relaxed}
-use Rattle.model.specs.Slots.{Slot, idle, is-settled, settled, waits}
+use Rattle.model.specs.Slots.{is-settled}
+use Rattle.model.specs.declared.slot.Slot.{Slot}
+use Rattle.model.specs.declared.slot.Slot.the-variants.{Free, Settled, Waits}
 use Rattle.model.specs.declared.records.Leg.{Leg}
 use Rattle.theory.specs.Laws.{No-worse, Travel-laws}
 use Rattle.theory.specs.Sides.{Mem, done-at, key-at, keyed, slot-at}
@@ -21,21 +23,21 @@ module _ {W : Type 0} (m : Meaning W) (laws : Travel-laws m) where
   otherwise a b e = ⊎-elim (λ h. absurd (both-ways (m .leb a b) e h)) (λ h. h) (laws .total a b)
 
   improves-means : (k : W) (x : Slot W) → improves m k x ≡ true → (is-settled x ≡ false) × No-worse m k (keyed m x)
-  improves-means k idle e = (refl, laws .no-way-worst k)
-  improves-means k (waits w) e = (refl, otherwise w k (not-true (m .leb w k) e))
-  improves-means k (settled w) e = absurd (both-ways false refl e)
+  improves-means k Free e = (refl, laws .no-way-worst k)
+  improves-means k (Waits w) e = (refl, otherwise w k (not-true (m .leb w k) e))
+  improves-means k (Settled w) e = absurd (both-ways false refl e)
 
   improves-not : (k : W) (x : Slot W) → improves m k x ≡ false → (is-settled x ≡ true → No-worse m (keyed m x) k) → No-worse m (keyed m x) k
-  improves-not k idle e h = not-false (m .leb (m .no-way) k) e
-  improves-not k (waits w) e h = not-false (m .leb w k) e
-  improves-not k (settled w) e h = h refl
+  improves-not k Free e h = not-false (m .leb (m .no-way) k) e
+  improves-not k (Waits w) e h = not-false (m .leb w k) e
+  improves-not k (Settled w) e h = h refl
 
 -- what an offer of the key k to station u does
 pub record Offering {W : Type 0} (m : Meaning W) (u : ℕ) (k : W) (xs ys : List (Slot W)) : Type 0 where
   pub long : length ys ≡ length xs
   pub improved : (z : ℕ) → No-worse m (key-at m ys z) (key-at m xs z)
   pub same-done : (z : ℕ) → done-at ys z ≡ done-at xs z
-  pub changed : (z : ℕ) → (slot-at ys z ≡ slot-at xs z) ⊎ ((z ≡ u) × (slot-at ys z ≡ waits k))
+  pub changed : (z : ℕ) → (slot-at ys z ≡ slot-at xs z) ⊎ ((z ≡ u) × (slot-at ys z ≡ Waits k))
   pub reached : (done-at xs u ≡ true → No-worse m (key-at m xs u) k) → No-worse m (key-at m ys u) k
 
 -- what a settled station's key, offered over its legs, does
@@ -43,31 +45,31 @@ pub record Relaxing {W : Type 0} (m : Meaning W) (k : W) (legs : List (Leg W)) (
   pub long : length ys ≡ length xs
   pub improved : (z : ℕ) → No-worse m (key-at m ys z) (key-at m xs z)
   pub same-done : (z : ℕ) → done-at ys z ≡ done-at xs z
-  pub changed : (z : ℕ) → (slot-at ys z ≡ slot-at xs z) ⊎ ((leg : Leg W) × Mem leg legs × (z ≡ leg .to) × (slot-at ys z ≡ waits (m .join k (leg .weight))))
+  pub changed : (z : ℕ) → (slot-at ys z ≡ slot-at xs z) ⊎ ((leg : Leg W) × Mem leg legs × (z ≡ leg .to) × (slot-at ys z ≡ Waits (m .join k (leg .weight))))
   pub reached : (leg : Leg W) → Mem leg legs → (done-at xs (leg .to) ≡ true → No-worse m (key-at m xs (leg .to)) (m .join k (leg .weight))) → No-worse m (key-at m ys (leg .to)) (m .join k (leg .weight))
 
 module _ {W : Type 0} (m : Meaning W) (laws : Travel-laws m) where
   pub offering : (u : ℕ) (k : W) (xs : List (Slot W)) → u < length xs → Offering m u k xs (offered m u k xs)
-  offering u k xs within = cond-both (improves m k (slot-at xs u)) (set xs u (waits k)) xs (Offering m u k xs) taken left
+  offering u k xs within = cond-both (improves m k (slot-at xs u)) (set xs u (Waits k)) xs (Offering m u k xs) taken left
     where
-      there : slot-at (set xs u (waits k)) u ≡ waits k
-      there = getD-set-same xs u (waits k) idle within
+      there : slot-at (set xs u (Waits k)) u ≡ Waits k
+      there = getD-set-same xs u (Waits k) Free within
 
-      elsewhere : (z : ℕ) → z ≢ u → slot-at (set xs u (waits k)) z ≡ slot-at xs z
-      elsewhere z other = getD-set-other xs u z (waits k) idle other
+      elsewhere : (z : ℕ) → z ≢ u → slot-at (set xs u (Waits k)) z ≡ slot-at xs z
+      elsewhere z other = getD-set-other xs u z (Waits k) Free other
 
-      taken : improves m k (slot-at xs u) ≡ true → Offering m u k xs (set xs u (waits k))
+      taken : improves m k (slot-at xs u) ≡ true → Offering m u k xs (set xs u (Waits k))
       taken e =
           let (unsettled, less) = improves-means m laws k (slot-at xs u) e in
           record {
-            long = length-set xs u (waits k);
+            long = length-set xs u (Waits k);
             improved = λ z. ⊎-elim
-                (λ same. subst (λ x. No-worse m (key-at m (set xs u (waits k)) x) (key-at m xs x)) (sym same) (subst (λ x. No-worse m (keyed m x) (key-at m xs u)) (sym there) less))
+                (λ same. subst (λ x. No-worse m (key-at m (set xs u (Waits k)) x) (key-at m xs x)) (sym same) (subst (λ x. No-worse m (keyed m x) (key-at m xs u)) (sym there) less))
                 (λ other. no-worse-of m laws _ _ (ap (keyed m) (elsewhere z other))) (cases-eq z u);
             same-done = λ z. ⊎-elim
-                (λ same. subst (λ x. done-at (set xs u (waits k)) x ≡ done-at xs x) (sym same) (ap is-settled there ∙ sym unsettled))
+                (λ same. subst (λ x. done-at (set xs u (Waits k)) x ≡ done-at xs x) (sym same) (ap is-settled there ∙ sym unsettled))
                 (λ other. ap is-settled (elsewhere z other)) (cases-eq z u);
-            changed = λ z. ⊎-elim (λ same. inr (same, ap (slot-at (set xs u (waits k))) same ∙ there)) (λ other. inl (elsewhere z other)) (cases-eq z u);
+            changed = λ z. ⊎-elim (λ same. inr (same, ap (slot-at (set xs u (Waits k))) same ∙ there)) (λ other. inl (elsewhere z other)) (cases-eq z u);
             reached = λ _. no-worse-of m laws _ _ (ap (keyed m) there);
           }
 

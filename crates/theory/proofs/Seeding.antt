@@ -17,7 +17,9 @@ use Rattle.model.specs.Levels.{Grid, level-at, look, row}
 use Rattle.model.specs.Lists.{by-some}
 use Rattle.model.specs.Networks.{Net, stop}
 use Rattle.model.specs.Queries.{entry-for, improves, meeting, offered, seeded, turned}
-use Rattle.model.specs.Slots.{Slot, idle, is-settled, key-of, settled, waits}
+use Rattle.model.specs.Slots.{is-settled, key-of}
+use Rattle.model.specs.declared.slot.Slot.{Slot}
+use Rattle.model.specs.declared.slot.Slot.the-variants.{Free, Settled, Waits}
 use Rattle.model.specs.Tables.{emitted, entry, label-of}
 use Rattle.model.specs.declared.records.Entry.{Entry}
 use Rattle.theory.specs.Laws.{No-worse, Travel-laws}
@@ -33,7 +35,7 @@ pub record Seeding {W : Type 0} (m : Meaning W) (levels : List ℕ) (top : ℕ) 
   pub long : length ys ≡ length xs
   pub improved : (z : ℕ) → No-worse m (key-at m ys z) (key-at m xs z)
   pub same-done : (z : ℕ) → done-at ys z ≡ done-at xs z
-  pub changed : (z : ℕ) → (slot-at ys z ≡ slot-at xs z) ⊎ ((e : Entry W) × Mem e es × (level-at levels (e .hub) ≡ top) × (z ≡ e .hub) × (slot-at ys z ≡ waits (e .weight)))
+  pub changed : (z : ℕ) → (slot-at ys z ≡ slot-at xs z) ⊎ ((e : Entry W) × Mem e es × (level-at levels (e .hub) ≡ top) × (z ≡ e .hub) × (slot-at ys z ≡ Waits (e .weight)))
   pub reached : (e : Entry W) → Mem e es → level-at levels (e .hub) ≡ top → done-at xs (e .hub) ≡ false → No-worse m (key-at m ys (e .hub)) (e .weight)
 
 module _ {W : Type 0} (m : Meaning W) (laws : Travel-laws m) (levels : List ℕ) (top : ℕ) where
@@ -70,15 +72,15 @@ module _ {W : Type 0} (m : Meaning W) (laws : Travel-laws m) (levels : List ℕ)
 
 -- seeding is the same against the direction of travel
 improves-turned : {W : Type 0} (m : Meaning W) (k : W) (x : Slot W) → improves (turned m) k x ≡ improves m k x
-improves-turned m k idle = refl
-improves-turned m k (waits w) = refl
-improves-turned m k (settled w) = refl
+improves-turned m k Free = refl
+improves-turned m k (Waits w) = refl
+improves-turned m k (Settled w) = refl
 
 pub seeded-turned : {W : Type 0} (m : Meaning W) (levels : List ℕ) (top : ℕ) (es : List (Entry W)) (xs : List (Slot W)) → seeded (turned m) levels top es xs ≡ seeded m levels top es xs
 seeded-turned m levels top [] xs = refl
 seeded-turned m levels top (e ∷ es) xs =
     seeded-turned m levels top es _
-    ∙ ap (λ t. seeded m levels top es (cond (eqb (level-at levels (e .hub)) top) (cond t (set xs (e .hub) (waits (e .weight))) xs) xs)) (improves-turned m (e .weight) (slot-at xs (e .hub)))
+    ∙ ap (λ t. seeded m levels top es (cond (eqb (level-at levels (e .hub)) top) (cond t (set xs (e .hub) (Waits (e .weight))) xs) xs)) (improves-turned m (e .weight) (slot-at xs (e .hub)))
 
 -- the residual entries of a station's label
 abbrev pub residual-entry : {W : Type 0} → List ℕ → ℕ → Grid W → ℕ → ℕ → Option W
@@ -100,23 +102,23 @@ module _ {W : Type 0} (m : Meaning W) (laws : Travel-laws m) (n : ℕ) (levels :
       let (i, (a, (is, there))) = row-is entry (row labels s) e h in
       ap (look labels s) (ap (λ (x : Entry W). x .hub) is) ∙ there ∙ ap Some (sym (ap (λ (x : Entry W). x .weight) is))
 
-  effect : Seeding m levels top (label-of labels s) (replicate n idle) (seeded m levels top (label-of labels s) (replicate n idle))
-  effect = seeding m laws levels top (label-of labels s) (replicate n idle) (λ e h. subst (λ k. e .hub < k) (sym (length-replicate n idle)) (below (e .hub) (e .weight) (entry-look e h)))
+  effect : Seeding m levels top (label-of labels s) (replicate n Free) (seeded m levels top (label-of labels s) (replicate n Free))
+  effect = seeding m laws levels top (label-of labels s) (replicate n Free) (λ e h. subst (λ k. e .hub < k) (sym (length-replicate n Free)) (below (e .hub) (e .weight) (entry-look e h)))
 
   -- a slot is idle, or waits with the weight of a residual entry
-  pub start-slot : (x : ℕ) → (slot-at (seeded m levels top (label-of labels s) (replicate n idle)) x ≡ idle) ⊎ ((k : W) × (slot-at (seeded m levels top (label-of labels s) (replicate n idle)) x ≡ waits k) × (residual-entry levels top labels s x ≡ Some k))
+  pub start-slot : (x : ℕ) → (slot-at (seeded m levels top (label-of labels s) (replicate n Free)) x ≡ Free) ⊎ ((k : W) × (slot-at (seeded m levels top (label-of labels s) (replicate n Free)) x ≡ Waits k) × (residual-entry levels top labels s x ≡ Some k))
   start-slot x =
       ⊎-elim (λ same. inl (same ∙ idle-everywhere m laws n x))
       (λ (e, h, level, at, new). inr (e .weight, new, subst (λ y. residual-entry levels top labels s y ≡ Some (e .weight)) (sym at) (some-residual levels top labels s (e .hub) (e .weight) level (entry-look e h))))
       (effect .changed x)
 
-  pub undone-start : (x : ℕ) → done-at (seeded m levels top (label-of labels s) (replicate n idle)) x ≡ false
+  pub undone-start : (x : ℕ) → done-at (seeded m levels top (label-of labels s) (replicate n Free)) x ≡ false
   undone-start x = effect .same-done x ∙ ap is-settled (idle-everywhere m laws n x)
 
-  pub start-side : (R : Net W) → Side m n R (residual-entry levels top labels s) (seeded m levels top (label-of labels s) (replicate n idle))
+  pub start-side : (R : Net W) → Side m n R (residual-entry levels top labels s) (seeded m levels top (label-of labels s) (replicate n Free))
   start-side R =
       record {
-        long = effect .long ∙ length-replicate n idle;
+        long = effect .long ∙ length-replicate n Free;
         seeded = λ x a e.
             let (level, is) = residual-some levels top labels s x a e in
             effect .reached (entry x a) (has-row entry (row labels s) x a is) level (ap is-settled (idle-everywhere m laws n x));

@@ -6,7 +6,9 @@ use Prim.Native.Nat.{ℕ, zero, suc, _≤_, _<_}
 use native.Mathlib.Omega.{arith}
 use lib.ListN.{length, set}
 use Rattle.std.proofs.shelf.Tests.{both-ways}
-use Rattle.model.specs.Slots.{Slot, idle, is-settled, settled, waits}
+use Rattle.model.specs.Slots.{is-settled}
+use Rattle.model.specs.declared.slot.Slot.{Slot}
+use Rattle.model.specs.declared.slot.Slot.the-variants.{Free, Settled, Waits}
 use Rattle.theory.specs.Sides.{done-at}
 
 abbrev pub undone : {W : Type 0} → List (Slot W) → ℕ
@@ -23,7 +25,7 @@ module _ {W : Type 0} where
       ap₂ (λ b n. cond b n (suc n)) (same 0) (undone-same xs ys (omega arith) (λ z. same (suc z)))
 
   -- one less when one is settled
-  pub undone-set : (xs : List (Slot W)) (v : ℕ) (k : W) → v < length xs → done-at xs v ≡ false → undone xs ≡ suc (undone (set xs v (settled k)))
+  pub undone-set : (xs : List (Slot W)) (v : ℕ) (k : W) → v < length xs → done-at xs v ≡ false → undone xs ≡ suc (undone (set xs v (Settled k)))
   undone-set [] v k within e = absurd (omega arith)
   undone-set (x ∷ xs) zero k within e = ap (λ b. cond b (undone xs) (suc (undone xs))) e
   undone-set (x ∷ xs) (suc v) k within e = one-more (is-settled x) (undone-set xs v k (omega arith) e)
@@ -35,14 +37,14 @@ module _ {W : Type 0} where
   -- where none is left, all are settled
   pub undone-none : (xs : List (Slot W)) → undone xs ≡ 0 → (z : ℕ) → z < length xs → done-at xs z ≡ true
   undone-none [] e z within = absurd (omega arith)
-  undone-none (idle ∷ xs) e z within = absurd (omega arith)
-  undone-none (waits w ∷ xs) e z within = absurd (omega arith)
-  undone-none (settled w ∷ xs) e zero within = refl
-  undone-none (settled w ∷ xs) e (suc z) within = undone-none xs e z (omega arith)
+  undone-none (Free ∷ xs) e z within = absurd (omega arith)
+  undone-none (Waits w ∷ xs) e z within = absurd (omega arith)
+  undone-none (Settled w ∷ xs) e zero within = refl
+  undone-none (Settled w ∷ xs) e (suc z) within = undone-none xs e z (omega arith)
 
   -- and never more than there are
   pub undone-most : (xs : List (Slot W)) → undone xs ≤ length xs
   undone-most [] = omega arith
-  undone-most (idle ∷ xs) = let h = undone-most xs in omega arith
-  undone-most (waits w ∷ xs) = let h = undone-most xs in omega arith
-  undone-most (settled w ∷ xs) = let h = undone-most xs in omega arith
+  undone-most (Free ∷ xs) = let h = undone-most xs in omega arith
+  undone-most (Waits w ∷ xs) = let h = undone-most xs in omega arith
+  undone-most (Settled w ∷ xs) = let h = undone-most xs in omega arith

@@ -10,20 +10,22 @@ use Rattle.std.specs.declared.option.Option.the-variants.{Some}
 use Rattle.measure.specs.Meaning.{Meaning}
 use Rattle.model.specs.Networks.{Best, Net, Walk, cost}
 use Rattle.model.specs.Queries.{plain-query}
-use Rattle.model.specs.Slots.{Slot, idle, is-settled, key-of, settled, waits}
+use Rattle.model.specs.Slots.{is-settled, key-of}
+use Rattle.model.specs.declared.slot.Slot.{Slot}
+use Rattle.model.specs.declared.slot.Slot.the-variants.{Free, Settled, Waits}
 use Rattle.model.specs.Tables.{leg}
 use Rattle.model.specs.declared.records.Leg.{Leg}
 use Rattle.theory.specs.Laws.{No-worse}
 
 -- The key of a slot, no way where it has none.
 abbrev pub keyed : {W : Type 0} → Meaning W → Slot W → W
-keyed m idle = m .no-way
-keyed m (waits w) = w
-keyed m (settled w) = w
+keyed m Free = m .no-way
+keyed m (Waits w) = w
+keyed m (Settled w) = w
 
 -- What is known of a station.
 abbrev pub slot-at : {W : Type 0} → List (Slot W) → ℕ → Slot W
-slot-at xs x = getD xs x idle
+slot-at xs x = getD xs x Free
 
 -- The key of a station.
 abbrev pub key-at : {W : Type 0} → Meaning W → List (Slot W) → ℕ → W

@@ -1,0 +1,13 @@
+pub mod Calls
+pub mod Changes
+pub mod Keys
+pub mod Layouts
+pub mod Least
+pub mod Order
+pub mod Putting
+pub mod Sides
+pub mod Sifting
+pub mod Slotting
+pub mod Taking
+pub mod Turns
+pub mod Views

@@ -1,0 +1,5 @@
+pub mod Counts
+pub mod Heap
+pub mod Lanes
+pub mod Marks
+pub mod Slots
