@@ -1,5 +1,7 @@
-// Prices some walks of a small network under each house measure, names the best, and writes the network to a file and reads it.
+// Prices some walks of a small network under each house measure, names the best, sorts the stations by
+// their sections, and writes the network to a file and reads it.
 mod files;
+mod sections;
 mod walks;
 
 use files::travel;
@@ -16,6 +18,7 @@ use measure::trip::Trip;
 use measure::trip::methods::TripDisplay;
 use measure::trip::methods::TripMeasure;
 use model::records::Section;
+use sections::by_sections;
 use std::error::AnyError;
 use std::fmt::Display;
 use walks::steps;
@@ -104,6 +107,8 @@ fn run(rt: &LibcRuntime) -> Result<(), AnyError> {
     compare::<Ticks>(rt, "ticks")?;
     compare::<Clearance>(rt, "clearance")?;
     compare::<Trip>(rt, "ticks and transfers")?;
+    let order = by_sections();
+    println!(rt, "stations by their number of sections: {order:?}")?;
     println!(rt, "the network in ticks as a file")?;
     let sections = network::<Ticks>(rt)?;
     travel(rt, &sections, 6)

@@ -14,7 +14,7 @@ use Rattle.model.specs.Sections.{ascends, ends-before, placed, rises-from, sam
 use Rattle.model.specs.Sound.{Both-ways, Differs-at, Network-is-symmetric, Placing-is-sound, Removing-is-sound}
 use Rattle.model.specs.declared.records.Section.{Section}
 
-before-trans : (a b c d e f : ℕ) → ends-before a b c d ≡ true → ends-before c d e f ≡ true → ends-before a b e f ≡ true
+pub before-trans : (a b c d e f : ℕ) → ends-before a b c d ≡ true → ends-before c d e f ≡ true → ends-before a b e f ≡ true
 before-trans a b c d e f = grind (arith, tells)
 
 before-other : (a b c d : ℕ) → same-ends a b c d ≡ false → ends-before c d a b ≡ false → ends-before a b c d ≡ true
@@ -40,14 +40,14 @@ same-parts a b c d e =
 
 module _ {W : Type 0} where
   -- what rises from later ends rises from earlier ones
-  rises-earlier : (a b c d : ℕ) (ss : List (Section W)) → ends-before a b c d ≡ true → rises-from c d ss ≡ true → rises-from a b ss ≡ true
+  pub rises-earlier : (a b c d : ℕ) (ss : List (Section W)) → ends-before a b c d ≡ true → rises-from c d ss ≡ true → rises-from a b ss ≡ true
   rises-earlier a b c d [] p q = refl
   rises-earlier a b c d (s ∷ ss) p q =
       let (first, rest) = and-parts (ends-before c d (s .low) (s .high)) (rises-from (s .low) (s .high) ss) q in
       and-from _ _ (before-trans a b c d (s .low) (s .high) p first) rest
 
   -- sections that rise from some ends do not have these
-  absent : (a b : ℕ) (ss : List (Section W)) → rises-from a b ss ≡ true → weight-of a b ss ≡ None
+  pub absent : (a b : ℕ) (ss : List (Section W)) → rises-from a b ss ≡ true → weight-of a b ss ≡ None
   absent a b [] q = refl
   absent a b (s ∷ ss) q =
       let (first, rest) = and-parts (ends-before a b (s .low) (s .high)) (rises-from (s .low) (s .high) ss) q in

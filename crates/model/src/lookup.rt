@@ -5,7 +5,7 @@ use crate::ends::Ends;
 use crate::records::Section;
 
 // Whether a section has these ends.
-fn has_ends<M: Copy>(section: &Section<M>, low: usize, high: usize) -> bool
+pub fn has_ends<M: Copy>(section: &Section<M>, low: usize, high: usize) -> bool
     ensures { λ r. ⌜ r ≡ same-ends (now (section .entry) .low) (now (section .entry) .high) low high ⌝ }
 {
     section.low == low && section.high == high

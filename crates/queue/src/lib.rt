@@ -5,5 +5,6 @@ pub mod heap;
 pub mod lane;
 pub mod lanes;
 pub mod mark;
+pub mod offers;
 pub mod operations;
 pub mod rank;

@@ -1,5 +1,4 @@
 // Holds 100,000 turns of the queue against a plain scan.
-mod bench;
 mod scan;
 mod sides;
 #[cfg(test)]

@@ -1,10 +1,10 @@
 // The same answers by going over every station.
 ghost use lib.ListN.{length};
 ghost use Prim.Native.Nat.{_≤_};
+use model::slot::Slot;
 use queue::lane::Lane;
 use queue::operations::slot_at;
 use queue::rank::Rank;
-use model::slot::Slot;
 
 // The better of a station in front and one behind it, which wins only by its key.
 fn better<W: Rank>(best: Option<(usize, W)>, s: usize, k: W) -> Option<(usize, W)> {

@@ -7,7 +7,6 @@ ghost use Rattle.queue.specs.Lanes.{forward-key, reverse-key};
 ghost use Rattle.queue.specs.Marks.{high-mark, low-mark};
 ghost use Rattle.queue.specs.Slots.{Takes, slots};
 ghost use Rattle.model.specs.declared.slot.Slot.the-variants.{Free};
-use crate::bench::takes;
 use measure::Measure;
 use model::records::Key;
 use queue::heap::Queue;
@@ -16,6 +15,7 @@ use queue::lanes::Forward;
 use queue::lanes::ForwardLane;
 use queue::lanes::Reverse;
 use queue::lanes::ReverseLane;
+use queue::offers::takes;
 use queue::operations::slot_at;
 use queue::rank::ByWeight;
 

@@ -5,8 +5,6 @@ ghost use Rattle.queue.specs.Heap.{Holds};
 ghost use Rattle.queue.specs.Lanes.{count-key};
 ghost use Rattle.queue.specs.Marks.{low-mark};
 ghost use Rattle.queue.specs.Slots.{slots};
-use crate::bench::offer;
-use crate::bench::start;
 use crate::scan::least;
 use crate::scan::waiting;
 use measure::Measure;
@@ -16,6 +14,8 @@ use model::records::Key;
 use queue::heap::Queue;
 use queue::lanes::Counts;
 use queue::lanes::CountsLane;
+use queue::offers::offer;
+use queue::offers::start;
 use queue::rank::ByCount;
 use queue::rank::Count;
 

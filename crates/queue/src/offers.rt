@@ -1,15 +1,16 @@
-// A queue over its tables, for callers that know no more than that it holds.
-ghost use lib.ListN.{length};
-ghost use mathlib.Core.Bool.{true};
+// A queue over its tables, for callers that test before they put.
+ghost use lib.ListN.{length, set};
+ghost use mathlib.Core.Bool.{cond};
+ghost use Rattle.model.specs.declared.slot.Slot.the-variants.{Waits};
 ghost use mathlib.Core.Path.{_≡_};
 ghost use Prim.Native.Nat.{_≤_};
 ghost use Rattle.queue.specs.Heap.{Holds};
-ghost use Rattle.queue.specs.Slots.{Takes, slots};
-use queue::heap::Queue;
-use queue::heap::ROOM;
-use queue::lane::Lane;
-use queue::operations::slot_at;
-use queue::rank::Rank;
+ghost use Rattle.queue.specs.Slots.{may-take, slots};
+use crate::heap::Queue;
+use crate::heap::ROOM;
+use crate::lane::Lane;
+use crate::operations::slot_at;
+use crate::rank::Rank;
 use model::slot::Slot;
 
 // Blanks the marks and gives a new queue over them.
@@ -23,7 +24,7 @@ pub fn start<L: Lane<R, W>, R: Copy, W: Rank>(marks: &mut [u8], keys: &[R]) -> Q
 
 // Whether a station in this slot may be given the key `k`.
 pub fn takes<W: Rank>(slot: Slot<W>, k: W) -> bool
-    ensures { λ r. ⌜ (r ≡ true → Takes leb k slot) ⌝ }
+    ensures { λ r. ⌜ r ≡ may-take leb k slot ⌝ }
 {
     match slot {
         Slot::Free => true,
@@ -41,7 +42,8 @@ pub fn offer<L: Lane<R, W>, R: Copy, W: Rank>(
     k: W,
 ) -> bool
     requires { ⌜ Holds leb (now queue) (slots key mark (now marks) (now keys)) ⌝ }
-    ensures { λ _. ⌜ Holds leb (now (queue .exit)) (slots key mark (now (marks .exit)) (now (keys .exit))) ⌝ }
+    ensures view { λ r. ⌜ slots key mark (now (marks .exit)) (now (keys .exit)) ≡ cond r (set (slots key mark (now (marks .entry)) (now (keys .entry))) s (Waits k)) (slots key mark (now (marks .entry)) (now (keys .entry))) ⌝ }
+    ensures holds { λ _. ⌜ Holds leb (now (queue .exit)) (slots key mark (now (marks .exit)) (now (keys .exit))) ⌝ }
 {
     if s >= ROOM || s >= marks.len() || s >= keys.len() {
         return false;

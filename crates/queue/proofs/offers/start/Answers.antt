@@ -1,6 +1,6 @@
 use lib.ListN.{length}
 use Rattle.queue.proofs.Views.{holds-blank}
-use Rattle.queue_trials.proofs.bench.start.Needs as need
+use Rattle.queue.proofs.offers.start.Needs as need
 
 pub returns : need.returns
 returns g c =

@@ -1,0 +1,2 @@
+pub mod Amending
+pub mod Finding
