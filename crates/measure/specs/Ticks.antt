@@ -1,7 +1,7 @@
 -- The measure of ticks. Assumes nothing.
 use mathlib.Core.Bool.{Bool, _&&_, cond}
 use mathlib.Core.List.{List, _++_}
-use Prim.Native.Nat.{ℕ, _+_, _≤_, min}
+use Prim.Native.Nat.{ℕ, _+_, min}
 use native.Mathlib.Nat.{min-le-right}
 use lib.Chars.{codes}
 use lib.Dec.{leb, eqb}

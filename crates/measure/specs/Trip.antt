@@ -1,7 +1,7 @@
 -- The measure of ticks and transfers. Assumes nothing.
-use mathlib.Core.Bool.{Bool, true, false, _&&_, _||_, cond}
+use mathlib.Core.Bool.{Bool, _&&_, _||_, cond}
 use mathlib.Core.List.{List, _++_}
-use Prim.Native.Nat.{ℕ, _+_, _*_, _/_, _%_, _≤_, min}
+use Prim.Native.Nat.{ℕ, _+_, _*_, _/_, _%_, min}
 use lib.Chars.{codes}
 use lib.Dec.{leb, ltb, eqb}
 use Rattle.std.specs.Written.{decimal}

@@ -1,5 +1,5 @@
 -- Parts that lie one behind the other, and blanks behind what is in use. Assumes nothing.
-use mathlib.Core.Bool.{Bool, true, false, _||_, cond}
+use mathlib.Core.Bool.{Bool, true, false, _||_}
 use mathlib.Core.List.{List, [], _∷_, _++_}
 use mathlib.Core.Logic.{⊎-elim}
 use mathlib.Core.Path.{_≡_, refl, sym, ap, subst, _∙_}
@@ -16,8 +16,8 @@ use Rattle.measure.specs.Meaning.{Meaning}
 use Rattle.model.specs.Levels.{level-at}
 use Rattle.model.specs.Lists.{padded, stretch, tab}
 use Rattle.model.specs.Records.{blank-entry, blank-leg, blank-station}
-use Rattle.model.specs.Sound.{Blank-behind, Lies-there, Parts-lie-there, Unused-is-blank, hubs-rise}
-use Rattle.model.specs.Tables.{Built, begins, begins-or-0, downward, emitted, entry, label-of, laid, legs-of, station-of, stations-at, upward, used-entries, used-legs}
+use Rattle.model.specs.Sound.{Parts-lie-there, Unused-is-blank, hubs-rise}
+use Rattle.model.specs.Tables.{begins, begins-or-0, downward, emitted, entry, label-of, laid, legs-of, station-of, stations-at, upward, used-entries, used-legs}
 use Rattle.model.specs.declared.records.Entry.{Entry}
 
 -- a station stands in a list

@@ -1,17 +1,15 @@
 -- Sections in ascending order, and what placing and removing do to look-ups. Assumes nothing.
-use mathlib.Core.Bool.{Bool, true, false, cond}
+use mathlib.Core.Bool.{true, false, cond}
 use mathlib.Core.List.{List, [], _∷_}
 use mathlib.Core.Path.{_≡_, refl, sym, ap, subst₂, _∙_}
 use Prim.Native.Nat.{ℕ}
 use native.Mathlib.Omega.{arith}
-use lib.Dec.{eqb, ltb}
+use lib.Dec.{eqb}
 use Rattle.std.proofs.shelf.Tests.{and-from, and-parts, cond-both, cond-false, cond-true, eqb-true}
 use Rattle.std.proofs.shelf.Ways.{tells}
-use Rattle.std.specs.declared.option.Option.{Option}
 use Rattle.std.specs.declared.option.Option.the-variants.{None, Some}
-use Rattle.model.specs.Networks.{network}
-use Rattle.model.specs.Sections.{ascends, ends-before, placed, rises-from, same-ends, weight-of, without}
-use Rattle.model.specs.Sound.{Both-ways, Differs-at, Network-is-symmetric, Placing-is-sound, Removing-is-sound}
+use Rattle.model.specs.Sections.{ends-before, placed, rises-from, same-ends, weight-of, without}
+use Rattle.model.specs.Sound.{Network-is-symmetric, Placing-is-sound, Removing-is-sound}
 use Rattle.model.specs.declared.records.Section.{Section}
 
 pub before-trans : (a b c d e f : ℕ) → ends-before a b c d ≡ true → ends-before c d e f ≡ true → ends-before a b e f ≡ true

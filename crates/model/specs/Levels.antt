@@ -1,14 +1,14 @@
 -- Levels: how they are picked, the networks above them, and where the climb ends. Assumes nothing.
-use mathlib.Core.Bool.{Bool, true, false, not, _&&_, _||_, cond}
-use mathlib.Core.List.{List, [], _∷_, _++_}
+use mathlib.Core.Bool.{Bool, false, not, _&&_, _||_, cond}
+use mathlib.Core.List.{List, [], _∷_}
 use Prim.Native.Nat.{ℕ, zero, suc, _+_, _-_, _*_, _/_}
 use lib.Dec.{eqb, leb, ltb}
-use lib.ListN.{getD, length, replicate}
+use lib.ListN.{getD, replicate}
 use Rattle.std.specs.Options.{isSome}
 use Rattle.std.specs.declared.option.Option.{Option}
 use Rattle.std.specs.declared.option.Option.the-variants.{None, Some}
 use Rattle.measure.specs.Meaning.{Meaning, better-of}
-use Rattle.model.specs.Lists.{stretch, tab, choose, by-some}
+use Rattle.model.specs.Lists.{tab, choose, by-some}
 use Rattle.model.specs.Networks.{Net}
 use Rattle.model.specs.Slots.{least, settling, is-settled}
 use Rattle.model.specs.declared.slot.Slot.{Slot}

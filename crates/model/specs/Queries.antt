@@ -1,13 +1,13 @@
 -- The plain query and the indexed query. Assumes nothing.
-use mathlib.Core.Bool.{Bool, true, false, not, _&&_, cond}
+use mathlib.Core.Bool.{Bool, false, cond}
 use mathlib.Core.List.{List, [], _∷_}
-use Prim.Native.Nat.{ℕ, zero, suc, _+_, _*_}
+use Prim.Native.Nat.{ℕ, zero, suc, _*_}
 use lib.Dec.{eqb}
 use lib.ListN.{getD, replicate, set}
 use Rattle.std.specs.declared.option.Option.{Option}
 use Rattle.std.specs.declared.option.Option.the-variants.{None, Some}
 use Rattle.measure.specs.Meaning.{Meaning, better, better-of}
-use Rattle.model.specs.Levels.{Grid, row, level-at, grid-of}
+use Rattle.model.specs.Levels.{Grid, level-at, grid-of}
 use Rattle.model.specs.Lists.{choose, by-some}
 use Rattle.model.specs.Networks.{Net}
 use Rattle.model.specs.Slots.{least, settling, is-settled, key-of}

@@ -1,15 +1,14 @@
 -- The tables of a built index, from the levels of its stations and their rows. Assumes nothing.
-use mathlib.Core.Bool.{Bool, true, false, _||_, cond}
+use mathlib.Core.Bool.{Bool, false, _||_, cond}
 use mathlib.Core.List.{List, [], _∷_, _++_}
 use Prim.Native.Nat.{ℕ, zero, suc, _+_, _-_}
 use lib.Dec.{eqb, ltb}
-use lib.ListN.{getD, length}
+use lib.ListN.{length}
 use Rattle.std.specs.declared.option.Option.{Option}
 use Rattle.std.specs.declared.option.Option.the-variants.{None, Some}
 use Rattle.measure.specs.Meaning.{Meaning}
-use Rattle.model.specs.Levels.{Grid, Stage, Climbed, row, look, better-some, climbed, final-levels, level-at}
+use Rattle.model.specs.Levels.{Grid, Climbed, row, look, better-some, final-levels, level-at}
 use Rattle.model.specs.Lists.{stretch, tab, padded, by-some}
-use Rattle.model.specs.Networks.{Net}
 use Rattle.model.specs.Records.{blank-entry, blank-leg, blank-station}
 use Rattle.model.specs.declared.records.Entry.{Entry}
 use Rattle.model.specs.declared.records.Leg.{Leg}

@@ -5,7 +5,7 @@ use mathlib.Core.Path.{_≡_, refl, sym, ap, subst, _∙_}
 use Prim.Native.Nat.{ℕ, zero, suc, _<_, _≤_}
 use native.Mathlib.Omega.{arith}
 use lib.ListN.{getD, length, set}
-use Rattle.std.proofs.shelf.Tests.{and-from, and-parts, cond-both, cond-false, cond-true, true≢false}
+use Rattle.std.proofs.shelf.Tests.{and-parts, cond-both, cond-false, cond-true, true≢false}
 use Rattle.std.proofs.shelf.Ways.{tells}
 use Rattle.std.specs.Holes.{inserted, removed}
 use Rattle.std.specs.Options.{isSome}

@@ -1,34 +1,31 @@
 -- The indexed query answers the best among all walks. Assumes nothing.
-use mathlib.Core.Bool.{Bool, true, false}
-use mathlib.Core.List.{List}
 use mathlib.Core.Logic.{_⊎_, inl, inr, ⊎-elim}
 use mathlib.Core.Path.{_≡_, refl, sym, ap, ap₂, subst, _∙_}
-use Prim.Native.Nat.{ℕ, _+_, _*_, _≤_, _<_}
+use Prim.Native.Nat.{ℕ, _*_, _<_}
 use native.Mathlib.Omega.{arith}
-use lib.ListN.{length, replicate}
+use lib.ListN.{replicate}
 use Rattle.std.specs.declared.option.Option.{Option}
-use Rattle.std.specs.declared.option.Option.the-variants.{None, Some}
+use Rattle.std.specs.declared.option.Option.the-variants.{Some}
 use Rattle.measure.specs.Meaning.{Meaning}
-use Rattle.model.specs.Levels.{level-at, look, row}
-use Rattle.model.specs.Networks.{Best, Net, Walk, cost}
-use Rattle.model.specs.Queries.{Search, entry-for, indexed-query, meeting, seeds, seeded, turned, two-sided}
-use Rattle.model.specs.Slots.{key-of}
+use Rattle.model.specs.Levels.{look, row}
+use Rattle.model.specs.Networks.{Best, Net, cost}
+use Rattle.model.specs.Queries.{entry-for, indexed-query, meeting, seeds, seeded, turned, two-sided}
 use Rattle.model.specs.declared.slot.Slot.{Slot}
-use Rattle.model.specs.declared.slot.Slot.the-variants.{Free, Waits}
-use Rattle.model.specs.Tables.{Built, entry, label-of, legs-of}
+use Rattle.model.specs.declared.slot.Slot.the-variants.{Free}
+use Rattle.model.specs.Tables.{Built, entry, label-of}
 use Rattle.model.specs.declared.records.Entry.{Entry}
 use Rattle.theory.specs.Indexed.{Indexed-is-right, Stands-on, lev-of}
 use Rattle.theory.specs.Laws.{No-worse, Travel-laws}
-use Rattle.theory.specs.Sides.{From-seed, Legs-of, Mem, Side, key-at, keyed, slot-at}
-use Rattle.theory.specs.Towers.{By-hub, By-rest, Covered, In, back}
+use Rattle.theory.specs.Sides.{From-seed, Mem, Side, key-at, keyed}
+use Rattle.theory.specs.Towers.{back}
 use Rattle.theory.specs.TwoSided.{Under-way}
-use Rattle.theory.proofs.BothSides.{Ended, keyed-turned, search-is-right}
+use Rattle.theory.proofs.BothSides.{Ended, search-is-right}
 use Rattle.theory.proofs.Climbing.{Costing}
-use Rattle.theory.proofs.Covering.{Last, append, entries-are-walks, labels-cover, last-step, sink}
+use Rattle.theory.proofs.Covering.{append, entries-are-walks, labels-cover, last-step, sink}
 use Rattle.theory.proofs.Seeding.{entry-look, entry-look-for, look-entry-for, meeting-covers, meeting-kind, residual-entry, residual-some, seeded-turned, some-residual, start-side, start-slot}
 use Rattle.theory.proofs.Tabs.{has-row}
 use Rattle.theory.proofs.Turning.{turned-tower, turned-walk}
-use Rattle.theory.proofs.Undone.{undone, undone-most}
+use Rattle.theory.proofs.Undone.{undone-most}
 use Rattle.theory.proofs.Weighing.{turned-laws}
 
 -- no way, or the cost of a walk

@@ -1,13 +1,13 @@
 -- The search from both sides, turn by turn. Assumes nothing.
-use mathlib.Core.Bool.{Bool, true, false, not, cond}
-use mathlib.Core.List.{List, [], _∷_}
-use mathlib.Core.Logic.{_⊎_, _≢_, inl, inr, ⊎-elim}
+use mathlib.Core.Bool.{Bool, true, false}
+use mathlib.Core.List.{List}
+use mathlib.Core.Logic.{_⊎_, ⊎-elim}
 use mathlib.Core.Path.{_≡_, refl, sym, ap, subst, _∙_}
 use Prim.Native.Nat.{ℕ, zero, suc, _+_, _≤_, _<_}
 use native.Mathlib.Omega.{arith}
-use lib.ListN.{getD, length, set, length-set}
+use lib.ListN.{length, set, length-set}
 use Rattle.std.proofs.shelf.Lists.{getD-past}
-use Rattle.std.proofs.shelf.Tests.{both-ways, cases-bool, cases-lt, not-false}
+use Rattle.std.proofs.shelf.Tests.{both-ways, cases-lt, not-false}
 use Rattle.std.specs.declared.option.Option.{Option}
 use Rattle.std.specs.declared.option.Option.the-variants.{None, Some}
 use Rattle.measure.specs.Meaning.{Meaning, better}
@@ -22,13 +22,12 @@ use Rattle.model.specs.Tables.{legs-of}
 use Rattle.model.specs.declared.records.Leg.{Leg}
 use Rattle.theory.specs.Laws.{No-worse, Travel-laws}
 use Rattle.theory.specs.Sides.{From-seed, Legs-of, Mem, Side, done-at, key-at, keyed, slot-at}
-use Rattle.theory.specs.Stopping.{At-rest}
 use Rattle.theory.specs.Towers.{back}
 use Rattle.theory.specs.TwoSided.{Meets-in, Under-way}
-use Rattle.theory.proofs.Leasts.{First, Found, Ranks, found}
+use Rattle.theory.proofs.Leasts.{First, Found, found}
 use Rattle.theory.proofs.PlainSearch.{ranks}
-use Rattle.theory.proofs.Reaching.{Met, reached-kind, reached-met, reached-slots}
-use Rattle.theory.proofs.Relaxing.{Relaxing, relaxing}
+use Rattle.theory.proofs.Reaching.{reached-kind, reached-met, reached-slots}
+use Rattle.theory.proofs.Relaxing.{relaxing}
 use Rattle.theory.proofs.Searching.{further, same-key, taking-keeps}
 use Rattle.theory.proofs.Stopped.{stop-is-right}
 use Rattle.theory.proofs.Undone.{undone, undone-none, undone-same, undone-set}

@@ -1,23 +1,22 @@
 -- Every build answers right. Assumes nothing.
 use mathlib.Core.Bool.{Bool, true, false, _&&_, cond}
 use mathlib.Core.List.{List, [], _∷_}
-use mathlib.Core.Path.{_≡_, refl, sym, ap, subst, subst₂, _∙_}
+use mathlib.Core.Path.{_≡_, refl, sym, subst, subst₂}
 use Prim.Native.Nat.{ℕ, zero, suc, _-_, _≤_, _<_}
 use native.Mathlib.Omega.{arith}
 use lib.Dec.{eqb, ltb}
 use Rattle.std.proofs.shelf.Lists.{getD-replicate}
 use Rattle.std.proofs.shelf.Tests.{and-parts, eqb-true, ltb-true}
-use Rattle.std.specs.declared.option.Option.{Option}
 use Rattle.std.specs.declared.option.Option.the-variants.{None, Some}
 use Rattle.measure.specs.Meaning.{Lawful, Meaning}
 use Rattle.model.proofs.Ordering.{network-is-symmetric}
-use Rattle.model.specs.Levels.{Climbed, Stage, climbed, final-levels, ground, level-at, stage-by}
-use Rattle.model.specs.Networks.{Best, Net, network}
-use Rattle.model.specs.Queries.{indexed-query, plain-query}
+use Rattle.model.specs.Levels.{Stage, climbed, final-levels, ground, level-at, stage-by}
+use Rattle.model.specs.Networks.{Best, Net}
+use Rattle.model.specs.Queries.{indexed-query}
 use Rattle.model.specs.Sections.{all-within, same-ends, weight-of}
 use Rattle.model.specs.Tables.{built, built-by}
 use Rattle.model.specs.declared.records.Section.{Section}
-use Rattle.theory.specs.Building.{Answers-right, Builds-answer-right, Good-levels, Plain-network, Sections-make-a-network, level-net}
+use Rattle.theory.specs.Building.{Builds-answer-right, Good-levels, Plain-network, Sections-make-a-network, level-net}
 use Rattle.theory.proofs.Built.{levels-answer}
 use Rattle.theory.proofs.Climbs.{Goes-well, goes-well, ground-sound}
 use Rattle.theory.proofs.PlainSearch.{plain-is-right}

@@ -1,9 +1,8 @@
 -- What is built over good levels stands on their networks. Assumes nothing.
-use mathlib.Core.Bool.{Bool, true, false, cond}
-use mathlib.Core.List.{List, [], _∷_}
+use mathlib.Core.List.{List, []}
 use mathlib.Core.Logic.{_⊎_, _≢_, inl, inr, ⊎-elim}
-use mathlib.Core.Path.{_≡_, refl, sym, ap, ap₂, subst, fun-ext, _∙_}
-use Prim.Native.Nat.{ℕ, zero, suc, _+_, _-_, _≤_, _<_}
+use mathlib.Core.Path.{_≡_, refl, sym, ap, subst, fun-ext, _∙_}
+use Prim.Native.Nat.{ℕ, zero, suc, _-_, _≤_, _<_}
 use native.Mathlib.Omega.{arith}
 use lib.Dec.{eqb, leb}
 use lib.ListN.{getD}
@@ -15,19 +14,19 @@ use Rattle.measure.specs.Meaning.{Lawful, Meaning}
 use Rattle.model.specs.Levels.{Grid, level-at, look, next-cell, row, stage-by}
 use Rattle.model.specs.Lists.{choose, tab}
 use Rattle.model.specs.Networks.{Best, Net}
-use Rattle.model.specs.Queries.{indexed-query, turned}
+use Rattle.model.specs.Queries.{indexed-query}
 use Rattle.model.specs.Tables.{built-by, descend, leg, legs-of, over-legs, own-entry, top-labels}
 use Rattle.model.specs.declared.records.Leg.{Leg}
 use Rattle.theory.specs.Building.{Good-levels, Levels-answer, Levels-stand, Plain-network, Queries-agree, level-net}
 use Rattle.theory.specs.Indexed.{Stands-on}
 use Rattle.theory.specs.Laws.{No-worse, Travel-laws}
-use Rattle.theory.specs.Sides.{Bounded, Legs-of, Mem}
-use Rattle.theory.specs.Towers.{By-leg, In, In-labels, Out-labels, back}
+use Rattle.theory.specs.Sides.{Legs-of, Mem}
+use Rattle.theory.specs.Towers.{In-labels, Out-labels, back}
 use Rattle.theory.proofs.Asking.{indexed-is-right}
 use Rattle.theory.proofs.Labelling.{above-kept, descend-past, label-look, label-past, over-has, over-is, over-own}
 use Rattle.theory.proofs.PlainSearch.{plain-is-right}
-use Rattle.theory.proofs.Standing.{is-net, joins, net-is, row-below, row-next, same-back, tower-stands}
-use Rattle.theory.proofs.Tabs.{getD-tab, getD-tab-past, has-row, look-grid, look-past, none-some, row-is, some-same}
+use Rattle.theory.proofs.Standing.{is-net, joins, net-is, row-next, same-back, tower-stands}
+use Rattle.theory.proofs.Tabs.{getD-tab, getD-tab-past, has-row, look-grid, look-past, none-some, row-is}
 use Rattle.theory.proofs.Weighing.{best-unique, travel-laws}
 
 module _ {W : Type 0} (m : Meaning W) (laws : Travel-laws m) (comm : (a b : W) → m .join a b ≡ m .join b a) (n j : ℕ) (levels : List ℕ) (G : Net W) (plain : Plain-network n G) (good : Good-levels m n (suc j) levels G) where

@@ -1,13 +1,13 @@
 -- Walks one level up and down again. Assumes nothing.
 use mathlib.Core.Bool.{Bool, true, false}
-use mathlib.Core.Logic.{_⊎_, _≢_, inl, inr, ⊎-elim}
+use mathlib.Core.Logic.{_⊎_, inl, inr, ⊎-elim}
 use mathlib.Core.Path.{_≡_, refl, sym, ap, ap₂, subst, _∙_}
 use Prim.Native.Nat.{ℕ}
 use Rattle.std.proofs.shelf.Tests.{cases-eq}
 use Rattle.std.specs.declared.option.Option.the-variants.{Some}
 use Rattle.measure.specs.Meaning.{Meaning}
 use Rattle.model.specs.Networks.{Best, Net, Walk, stop, step, cost}
-use Rattle.theory.specs.Ascent.{Ascent-preserves, Next, Over, Preserves}
+use Rattle.theory.specs.Ascent.{Ascent-preserves, Next, Preserves}
 use Rattle.theory.specs.Laws.{Has, No-worse, Travel-laws}
 use Rattle.theory.proofs.Weighing.{grows, mono, no-worse-refl}
 

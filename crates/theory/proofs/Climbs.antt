@@ -5,18 +5,17 @@ use mathlib.Core.Logic.{_⊎_, _≢_, inl, inr, ⊎-elim}
 use mathlib.Core.Path.{_≡_, refl, sym, ap, ap₂, subst, _∙_}
 use Prim.Native.Nat.{ℕ, zero, suc, _-_, _≤_, _<_}
 use native.Mathlib.Omega.{arith}
-use lib.Dec.{eqb, leb}
-use lib.ListN.{getD, replicate}
-use Rattle.std.proofs.shelf.Lists.{getD-past, getD-replicate, length-replicate}
-use Rattle.std.proofs.shelf.Tests.{and-parts, both-ways, cases-bool, cases-eq, cases-lt, cond-false, cond-true, eq-eqb, eqb-false, eqb-true, le-leb, ne-eqb}
-use Rattle.std.proofs.shelf.Ways.{tells}
+use lib.Dec.{eqb}
+use lib.ListN.{getD}
+use Rattle.std.proofs.shelf.Lists.{getD-replicate}
+use Rattle.std.proofs.shelf.Tests.{both-ways, cases-bool, cases-eq, cases-lt, cond-false, cond-true, eq-eqb, eqb-true, le-leb, ne-eqb}
 use Rattle.std.specs.declared.option.Option.{Option}
 use Rattle.std.specs.declared.option.Option.the-variants.{None, Some}
-use Rattle.measure.specs.Meaning.{Lawful, Meaning}
-use Rattle.model.specs.Levels.{Climbed, Stage, by-way, climb, climbed, demand, final-levels, from-below, ground, is-picked, join-some, level-at, look, next-cell, picks, present, raised, row, stage-by, stations-left, too-little, size}
+use Rattle.measure.specs.Meaning.{Meaning}
+use Rattle.model.specs.Levels.{Climbed, Stage, climb, demand, final-levels, from-below, ground, is-picked, join-some, level-at, look, next-cell, picks, present, raised, row, stage-by, stations-left, too-little, size}
 use Rattle.model.specs.Lists.{choose, stretch, tab}
 use Rattle.model.specs.Networks.{Net}
-use Rattle.theory.specs.Building.{Good-levels, Plain-network, level-net}
+use Rattle.theory.specs.Building.{Plain-network, level-net}
 use Rattle.theory.specs.Laws.{No-worse, Travel-laws}
 use Rattle.theory.proofs.Nexts.{Some-within, cell-has, cell-is, join-is, way-direct, way-over}
 use Rattle.theory.proofs.Picked.{Sound-stage, picks-apart, picks-present}

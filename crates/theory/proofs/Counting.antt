@@ -1,29 +1,29 @@
 -- How many stations an indexed query settles. Assumes nothing.
 use mathlib.Core.Bool.{Bool, true, false, cond}
-use mathlib.Core.List.{List, [], _∷_}
-use mathlib.Core.Logic.{_⊎_, _≢_, inl, inr, ⊎-elim}
+use mathlib.Core.List.{List}
+use mathlib.Core.Logic.{_⊎_, _≢_, ⊎-elim}
 use mathlib.Core.Path.{_≡_, refl, sym, ap, ap₂, subst, _∙_}
 use Prim.Native.Nat.{ℕ, zero, suc, _+_, _*_, _≤_, _<_}
 use native.Mathlib.Omega.{arith}
 use lib.Dec.{eqb}
-use lib.ListN.{getD, length, replicate, set, length-set}
+use lib.ListN.{length, set, length-set}
 use lib.Seq.{getD-set-other, getD-set-same}
-use Rattle.std.proofs.shelf.Tests.{both-ways, cases-bool, cases-eq, cases-lt, eq-eqb}
+use Rattle.std.proofs.shelf.Tests.{both-ways, cases-eq, eq-eqb}
 use Rattle.std.specs.declared.option.Option.{Option}
 use Rattle.std.specs.declared.option.Option.the-variants.{None, Some}
-use Rattle.measure.specs.Meaning.{Lawful, Meaning, better}
-use Rattle.model.specs.Levels.{Grid, level-at, sum-below}
+use Rattle.measure.specs.Meaning.{Meaning, better}
+use Rattle.model.specs.Levels.{Grid, sum-below}
 use Rattle.model.specs.Lists.{by-some, choose}
 use Rattle.model.specs.Networks.{Net}
-use Rattle.model.specs.Queries.{Search, forward-step, indexed-query, next-step, reached, relaxed, reverse-step, seeded, seeds, turned, two-sided}
-use Rattle.model.specs.Slots.{is-settled, key-of, least-from, settling}
+use Rattle.model.specs.Queries.{Search, forward-step, next-step, reached, reverse-step, seeds, turned, two-sided}
+use Rattle.model.specs.Slots.{is-settled, key-of, least-from}
 use Rattle.model.specs.declared.slot.Slot.{Slot}
 use Rattle.model.specs.declared.slot.Slot.the-variants.{Free, Settled, Waits}
-use Rattle.model.specs.Tables.{Built, label-of, legs-of}
+use Rattle.model.specs.Tables.{label-of, legs-of}
 use Rattle.model.specs.declared.records.Leg.{Leg}
-use Rattle.theory.specs.Indexed.{Settles-few, Stands-on, lev-of}
-use Rattle.theory.specs.Laws.{No-worse, Travel-laws}
-use Rattle.theory.specs.Sides.{From-seed, Legs-of, Mem, Side, done-at, key-at, slot-at}
+use Rattle.theory.specs.Indexed.{Settles-few, lev-of}
+use Rattle.theory.specs.Laws.{Travel-laws}
+use Rattle.theory.specs.Sides.{From-seed, Legs-of, done-at, slot-at}
 use Rattle.theory.specs.Towers.{back}
 use Rattle.theory.specs.TwoSided.{Meets-in, Under-way}
 use Rattle.theory.proofs.Asking.{Reaches, forward-residual, meet-in, reverse-residual, seed-of, under-way}
@@ -31,7 +31,7 @@ use Rattle.theory.proofs.BothSides.{first-key, forward-way, reverse-way}
 use Rattle.theory.proofs.Leasts.{First, Found, found}
 use Rattle.theory.proofs.PlainSearch.{ranks}
 use Rattle.theory.proofs.Reaching.{reached-slots}
-use Rattle.theory.proofs.Relaxing.{Relaxing, relaxing}
+use Rattle.theory.proofs.Relaxing.{relaxing}
 use Rattle.theory.proofs.Seeding.{undone-start}
 use Rattle.theory.proofs.Weighing.{turned-laws}
 

@@ -1,5 +1,5 @@
 -- Labels over a tower of networks. Assumes nothing.
-use mathlib.Core.Bool.{Bool, true, false}
+use mathlib.Core.Bool.{true}
 use mathlib.Core.Logic.{_⊎_, _≢_, inl, inr, ⊎-elim}
 use mathlib.Core.Path.{_≡_, refl, sym, ap, ap₂, subst, _∙_}
 use Prim.Native.Nat.{ℕ, zero, suc, _+_, _-_, _≤_, _<_}
@@ -8,11 +8,10 @@ use Rattle.std.proofs.shelf.Tests.{cases-eq, eq-eqb, ne-eqb}
 use Rattle.std.specs.declared.option.Option.the-variants.{Some}
 use Rattle.measure.specs.Meaning.{Meaning}
 use Rattle.model.specs.Networks.{Net, Walk, stop, step, cost}
-use Rattle.model.specs.Queries.{turned}
-use Rattle.theory.specs.Laws.{Has, No-worse, Travel-laws}
-use Rattle.theory.specs.Towers.{By-hub, By-leg, By-rest, Covered, Entries-are-walks, In, In-labels, Labels-cover, Out-labels, Tower, at-level}
+use Rattle.theory.specs.Laws.{No-worse, Travel-laws}
+use Rattle.theory.specs.Towers.{By-leg, Covered, Entries-are-walks, In, In-labels, Labels-cover, Out-labels, Tower, at-level}
 use Rattle.theory.proofs.Climbing.{Costing, lift, lower}
-use Rattle.theory.proofs.Weighing.{mono, no-worse-of}
+use Rattle.theory.proofs.Weighing.{no-worse-of}
 
 -- a walk that ends with a given section
 pub record Last {W : Type 0} (m : Meaning W) (G : Net W) (t s : ℕ) (c : W) : Type 0 where

@@ -1,13 +1,13 @@
 -- The labels of given levels. Assumes nothing.
-use mathlib.Core.Bool.{Bool, true, false, cond}
+use mathlib.Core.Bool.{cond}
 use mathlib.Core.List.{List, [], _∷_}
 use mathlib.Core.Logic.{_⊎_, _≢_, inl, inr, ⊎-elim}
-use mathlib.Core.Path.{_≡_, refl, sym, ap, ap₂, subst, _∙_}
+use mathlib.Core.Path.{_≡_, refl, sym, ap, subst, _∙_}
 use Prim.Native.Nat.{ℕ, zero, suc, _≤_, _<_}
 use native.Mathlib.Omega.{arith}
 use lib.Dec.{eqb}
 use lib.ListN.{getD}
-use Rattle.std.proofs.shelf.Tests.{both-ways, cases-eq, cases-lt, cond-false, cond-true, eq-eqb, eqb-true, ne-eqb}
+use Rattle.std.proofs.shelf.Tests.{cases-eq, cond-false, cond-true, eq-eqb, ne-eqb}
 use Rattle.std.specs.declared.option.Option.{Option}
 use Rattle.std.specs.declared.option.Option.the-variants.{None, Some}
 use Rattle.measure.specs.Meaning.{Meaning}
@@ -15,7 +15,7 @@ use Rattle.model.specs.Levels.{Grid, better-some, level-at, look, row}
 use Rattle.model.specs.Lists.{by-some, tab}
 use Rattle.model.specs.Tables.{descend, label-row, legs-of, over-legs, own-entry}
 use Rattle.model.specs.declared.records.Leg.{Leg}
-use Rattle.theory.specs.Laws.{No-worse, Travel-laws}
+use Rattle.theory.specs.Laws.{Travel-laws}
 use Rattle.theory.specs.Sides.{Mem}
 use Rattle.theory.proofs.Nexts.{Some-within, better-is, better-keeps, better-within}
 use Rattle.theory.proofs.Tabs.{getD-tab, getD-tab-past, none-some, some-same}

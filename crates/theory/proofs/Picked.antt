@@ -1,27 +1,26 @@
 -- Picked stations are independent. Assumes nothing.
 use mathlib.Core.Bool.{Bool, true, false, cond}
-use mathlib.Core.List.{List, [], _∷_}
+use mathlib.Core.List.{List}
 use mathlib.Core.Logic.{_⊎_, _≢_, inl, inr, ⊎-elim}
 use mathlib.Core.Path.{_≡_, refl, sym, ap, subst, _∙_}
-use Prim.Native.Nat.{ℕ, zero, suc, _≤_, _<_}
+use Prim.Native.Nat.{ℕ, zero, suc, _<_}
 use native.Mathlib.Omega.{arith}
-use lib.Dec.{eqb, leb}
-use lib.ListN.{getD, length, set}
+use lib.Dec.{leb}
+use lib.ListN.{getD, set}
 use lib.Seq.{getD-set-other, getD-set-same}
-use Rattle.std.proofs.shelf.Tests.{both-ways, cases-eq, cases-lt, leb-true}
+use Rattle.std.proofs.shelf.Tests.{both-ways, cases-eq, cases-lt}
 use Rattle.std.proofs.shelf.Ways.{tells}
 use Rattle.std.specs.Options.{isSome}
 use Rattle.std.specs.declared.option.Option.{Option}
 use Rattle.std.specs.declared.option.Option.the-variants.{None, Some}
-use Rattle.model.proofs.Laying.{length-tab}
-use Rattle.model.specs.Levels.{Grid, Stage, bar-next, barred, candidates, is-picked, look, picking, picks, present, row, row-count}
-use Rattle.model.specs.Lists.{by-some, tab}
+use Rattle.model.specs.Levels.{Stage, bar-next, barred, candidates, is-picked, look, picking, picks, present, row, row-count}
+use Rattle.model.specs.Lists.{by-some}
 use Rattle.model.specs.Slots.{is-settled, least-from, settling}
 use Rattle.model.specs.declared.slot.Slot.{Slot}
 use Rattle.model.specs.declared.slot.Slot.the-variants.{Free, Settled, Waits}
 use Rattle.theory.specs.Sides.{done-at, slot-at}
 use Rattle.theory.proofs.Leasts.{First, Found, Ranks, found}
-use Rattle.theory.proofs.Tabs.{getD-tab, getD-tab-past, none-some}
+use Rattle.theory.proofs.Tabs.{getD-tab, getD-tab-past}
 
 -- the stations of a stage that go on are joined to each other, both ways, and to no station itself
 pub record Sound-stage {W : Type 0} (n : ℕ) (t : Stage W) : Type 0 where

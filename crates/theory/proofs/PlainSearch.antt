@@ -1,12 +1,12 @@
 -- The plain query answers the best among all walks. Assumes nothing.
 use mathlib.Core.Bool.{Bool, true, false, cond}
-use mathlib.Core.List.{List, [], _∷_}
+use mathlib.Core.List.{List}
 use mathlib.Core.Logic.{_⊎_, inl, inr, ⊎-elim}
 use mathlib.Core.Path.{_≡_, refl, sym, ap, subst, _∙_}
 use Prim.Native.Nat.{ℕ, zero, suc, _≤_, _<_}
 use native.Mathlib.Omega.{arith}
 use lib.Dec.{eqb}
-use lib.ListN.{getD, length, replicate, set, length-set}
+use lib.ListN.{length, replicate, set, length-set}
 use Rattle.std.proofs.shelf.Lists.{getD-past, getD-replicate, length-replicate}
 use Rattle.std.proofs.shelf.Tests.{both-ways, cases-bool, cases-lt, cond-true, eq-eqb, eqb-true}
 use Rattle.std.specs.declared.option.Option.{Option}
@@ -16,7 +16,7 @@ use Rattle.measure.specs.Meaning.{Meaning}
 use Rattle.model.specs.Levels.{grid-of}
 use Rattle.model.specs.Lists.{by-some, choose}
 use Rattle.model.specs.Networks.{Best, Net, Walk, stop, step, cost}
-use Rattle.model.specs.Queries.{Answer, arrived, offered, plain-search, relaxed}
+use Rattle.model.specs.Queries.{arrived, offered, plain-search, relaxed}
 use Rattle.model.specs.Slots.{is-settled, key-of, least-from, settling}
 use Rattle.model.specs.declared.slot.Slot.{Slot}
 use Rattle.model.specs.declared.slot.Slot.the-variants.{Free, Settled, Waits}
@@ -25,7 +25,7 @@ use Rattle.theory.specs.Laws.{No-worse, Travel-laws}
 use Rattle.theory.specs.Sides.{Bounded, From-seed, Legs-of, Plain-is-right, Side, done-at, key-at, keyed, slot-at}
 use Rattle.theory.proofs.Climbing.{Costing}
 use Rattle.theory.proofs.Leasts.{First, Found, Ranks, found}
-use Rattle.theory.proofs.Relaxing.{Offering, Relaxing, offering, relaxing}
+use Rattle.theory.proofs.Relaxing.{offering, relaxing}
 use Rattle.theory.proofs.Searching.{taking-keeps}
 use Rattle.theory.proofs.Tabs.{grid-leg, has-grid-leg, none-some, some-same}
 use Rattle.theory.proofs.Undone.{undone, undone-most, undone-none, undone-same, undone-set}

@@ -1,14 +1,14 @@
 -- What settling a station on one side does to the best so far. Assumes nothing.
 use mathlib.Core.Bool.{Bool, true, false, cond}
 use mathlib.Core.List.{List, [], _∷_}
-use mathlib.Core.Logic.{_⊎_, _≢_, inl, inr, ⊎-elim}
-use mathlib.Core.Path.{_≡_, refl, sym, ap, subst, _∙_}
+use mathlib.Core.Logic.{_⊎_, inl, inr, ⊎-elim}
+use mathlib.Core.Path.{_≡_, refl, sym, subst}
 use Prim.Native.Nat.{ℕ, _<_}
-use lib.ListN.{getD, length, set, length-set}
+use lib.ListN.{length, set, length-set}
 use lib.Seq.{getD-set-other, getD-set-same}
-use Rattle.std.proofs.shelf.Tests.{cases-eq, cond-both, cond-false, cond-true}
+use Rattle.std.proofs.shelf.Tests.{cases-eq, cond-both}
 use Rattle.measure.specs.Meaning.{Meaning, better-of}
-use Rattle.model.specs.Queries.{improves, met, offered, reached, relaxed}
+use Rattle.model.specs.Queries.{improves, met, reached, relaxed}
 use Rattle.model.specs.Slots.{key-of}
 use Rattle.model.specs.declared.slot.Slot.{Slot}
 use Rattle.model.specs.declared.slot.Slot.the-variants.{Free, Settled, Waits}
@@ -17,7 +17,7 @@ use Rattle.model.specs.declared.records.Leg.{Leg}
 use Rattle.theory.specs.Laws.{No-worse, Travel-laws}
 use Rattle.theory.specs.Sides.{Mem, key-at, keyed, slot-at}
 use Rattle.theory.proofs.Relaxing.{otherwise}
-use Rattle.theory.proofs.Weighing.{no-worse-of, no-worse-refl}
+use Rattle.theory.proofs.Weighing.{no-worse-refl}
 
 module _ {W : Type 0} (m : Meaning W) (laws : Travel-laws m) where
   -- the better of two is no worse than either, and is one of them

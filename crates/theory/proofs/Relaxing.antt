@@ -1,14 +1,14 @@
 -- Keys that are offered to stations. Assumes nothing.
-use mathlib.Core.Bool.{Bool, true, false, not, cond}
+use mathlib.Core.Bool.{true, false}
 use mathlib.Core.List.{List, [], _∷_}
 use mathlib.Core.Logic.{_⊎_, _≢_, inl, inr, ⊎-elim}
 use mathlib.Core.Path.{_≡_, refl, sym, ap, subst, _∙_}
 use Prim.Native.Nat.{ℕ, _<_}
-use lib.ListN.{getD, length, set, length-set}
+use lib.ListN.{length, set, length-set}
 use lib.Seq.{getD-set-other, getD-set-same}
 use Rattle.std.proofs.shelf.Tests.{both-ways, cases-eq, cond-both, not-false, not-true}
-use Rattle.measure.specs.Meaning.{Meaning, better}
-use Rattle.model.specs.Queries.{improves, is-key, offered, relaxed}
+use Rattle.measure.specs.Meaning.{Meaning}
+use Rattle.model.specs.Queries.{improves, offered, relaxed}
 use Rattle.model.specs.Slots.{is-settled}
 use Rattle.model.specs.declared.slot.Slot.{Slot}
 use Rattle.model.specs.declared.slot.Slot.the-variants.{Free, Settled, Waits}

@@ -1,29 +1,29 @@
 -- One side of a search keeps its promise while it settles stations. Assumes nothing.
-use mathlib.Core.Bool.{Bool, true, false, cond}
-use mathlib.Core.List.{List, [], _∷_}
+use mathlib.Core.Bool.{true, false}
+use mathlib.Core.List.{List}
 use mathlib.Core.Logic.{_⊎_, _≢_, inl, inr, ⊎-elim}
-use mathlib.Core.Path.{_≡_, refl, sym, ap, ap₂, subst, _∙_}
-use Prim.Native.Nat.{ℕ, zero, suc, _≤_, _<_}
+use mathlib.Core.Path.{_≡_, refl, sym, ap, subst, _∙_}
+use Prim.Native.Nat.{ℕ, _<_}
 use native.Mathlib.Omega.{arith}
-use lib.ListN.{getD, length, set, length-set}
+use lib.ListN.{length, set, length-set}
 use lib.Seq.{getD-set-other, getD-set-same}
-use Rattle.std.proofs.shelf.Tests.{both-ways, cases-bool, cases-eq}
+use Rattle.std.proofs.shelf.Tests.{both-ways, cases-eq}
 use Rattle.std.specs.declared.option.Option.{Option}
-use Rattle.std.specs.declared.option.Option.the-variants.{None, Some}
+use Rattle.std.specs.declared.option.Option.the-variants.{Some}
 use Rattle.measure.specs.Meaning.{Meaning}
-use Rattle.model.specs.Networks.{Net, Walk, stop, step, cost}
+use Rattle.model.specs.Networks.{Net, stop, step, cost}
 use Rattle.model.specs.Queries.{relaxed}
 use Rattle.model.specs.Slots.{is-settled, key-of}
 use Rattle.model.specs.declared.slot.Slot.{Slot}
 use Rattle.model.specs.declared.slot.Slot.the-variants.{Free, Settled, Waits}
 use Rattle.model.specs.declared.records.Leg.{Leg}
 use Rattle.theory.specs.Laws.{No-worse, Travel-laws}
-use Rattle.theory.specs.Sides.{From-seed, Legs-of, Mem, Side, done-at, key-at, keyed, slot-at}
+use Rattle.theory.specs.Sides.{From-seed, Legs-of, Side, done-at, key-at, keyed, slot-at}
 use Rattle.theory.proofs.Covering.{append}
 use Rattle.theory.proofs.Leasts.{First}
 use Rattle.theory.proofs.Relaxing.{Relaxing, relaxing}
-use Rattle.theory.proofs.Tabs.{none-some, some-same}
-use Rattle.theory.proofs.Weighing.{grows-behind, no-worse-of, no-worse-refl}
+use Rattle.theory.proofs.Tabs.{some-same}
+use Rattle.theory.proofs.Weighing.{grows-behind, no-worse-of}
 
 module _ {W : Type 0} (m : Meaning W) (laws : Travel-laws m) (n : ℕ) (G : Net W) (seed : ℕ → Option W) where
   -- a key that goes on over a section

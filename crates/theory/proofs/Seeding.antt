@@ -3,7 +3,7 @@ use mathlib.Core.Bool.{Bool, true, false, cond}
 use mathlib.Core.List.{List, [], _∷_}
 use mathlib.Core.Logic.{_⊎_, inl, inr, ⊎-elim}
 use mathlib.Core.Path.{_≡_, refl, sym, ap, ap₂, subst, _∙_}
-use Prim.Native.Nat.{ℕ, zero, suc, _+_, _≤_, _<_}
+use Prim.Native.Nat.{ℕ, zero, suc, _+_, _<_}
 use native.Mathlib.Nat.{zero-add}
 use native.Mathlib.Omega.{arith}
 use lib.Dec.{eqb}
@@ -23,10 +23,10 @@ use Rattle.model.specs.declared.slot.Slot.the-variants.{Free, Settled, Waits}
 use Rattle.model.specs.Tables.{emitted, entry, label-of}
 use Rattle.model.specs.declared.records.Entry.{Entry}
 use Rattle.theory.specs.Laws.{No-worse, Travel-laws}
-use Rattle.theory.specs.Sides.{From-seed, Mem, Side, done-at, key-at, keyed, slot-at}
+use Rattle.theory.specs.Sides.{Mem, Side, done-at, key-at, slot-at}
 use Rattle.theory.proofs.PlainSearch.{idle-everywhere}
 use Rattle.theory.proofs.Reaching.{better-either, better-left, better-right}
-use Rattle.theory.proofs.Relaxing.{Offering, offering}
+use Rattle.theory.proofs.Relaxing.{offering}
 use Rattle.theory.proofs.Tabs.{has-row, none-some, row-is, some-same}
 use Rattle.theory.proofs.Weighing.{no-worse-refl}
 

@@ -1,22 +1,21 @@
 -- The networks of given levels, each above the one before. Assumes nothing.
 use mathlib.Core.Bool.{Bool, true, false, not, _&&_, cond}
-use mathlib.Core.List.{List, [], _∷_}
+use mathlib.Core.List.{List, []}
 use mathlib.Core.Logic.{_⊎_, _≢_, inl, inr, ⊎-elim}
 use mathlib.Core.Path.{_≡_, refl, sym, ap, ap₂, subst, _∙_}
 use Prim.Native.Nat.{ℕ, zero, suc, _≤_, _<_}
 use native.Mathlib.Omega.{arith}
 use lib.Dec.{eqb, leb}
-use lib.ListN.{getD, replicate}
+use lib.ListN.{getD}
 use Rattle.std.proofs.shelf.Lists.{getD-replicate}
-use Rattle.std.proofs.shelf.Tests.{both-ways, cases-lt, cond-false, cond-true, eq-eqb, eqb-false, eqb-true, le-leb, leb-true, ne-eqb}
+use Rattle.std.proofs.shelf.Tests.{both-ways, cases-lt, cond-true, eq-eqb, eqb-false, eqb-true, le-leb, leb-true, ne-eqb}
 use Rattle.std.proofs.shelf.Ways.{tells}
-use Rattle.std.specs.declared.option.Option.{Option}
 use Rattle.std.specs.declared.option.Option.the-variants.{None, Some}
 use Rattle.measure.specs.Meaning.{Meaning}
-use Rattle.model.specs.Levels.{Grid, Stage, by-way, grid-of, is-picked, join-some, level-at, look, next-cell, present, raised, row, stage-by}
+use Rattle.model.specs.Levels.{by-way, is-picked, join-some, level-at, look, next-cell, present, row, stage-by}
 use Rattle.model.specs.Lists.{choose, tab}
 use Rattle.model.specs.Networks.{Net}
-use Rattle.theory.specs.Ascent.{Next, Over}
+use Rattle.theory.specs.Ascent.{Next}
 use Rattle.theory.specs.Building.{Good-levels, Plain-network, level-net}
 use Rattle.theory.specs.Laws.{No-worse, Travel-laws}
 use Rattle.theory.specs.Towers.{In, Tower, at-level}

@@ -1,10 +1,9 @@
 -- A two-sided search at rest. Assumes nothing.
-use mathlib.Core.Bool.{Bool, true, false}
+use mathlib.Core.Bool.{Bool}
 use mathlib.Core.Logic.{_⊎_, inl, inr, ⊎-elim}
-use mathlib.Core.Path.{_≡_, refl, sym, ap, subst, _∙_}
+use mathlib.Core.Path.{_≡_, sym, ap, subst, _∙_}
 use Prim.Native.Nat.{ℕ}
 use Rattle.std.proofs.shelf.Tests.{cases-bool}
-use Rattle.std.specs.declared.option.Option.the-variants.{Some}
 use Rattle.measure.specs.Meaning.{Meaning}
 use Rattle.model.specs.Networks.{Net, Walk, stop, step, cost}
 use Rattle.theory.specs.Laws.{No-worse, Travel-laws}

@@ -1,17 +1,17 @@
 -- Rows made from numbers, and the legs that a row makes. Assumes nothing.
-use mathlib.Core.List.{List, [], _∷_, _++_}
+use mathlib.Core.List.{List, [], _∷_}
 use mathlib.Core.Logic.{_⊎_, inl, inr, ⊎-elim}
 use mathlib.Core.Path.{_≡_, refl, sym, ap, ap₂, subst, _∙_}
 use Prim.Native.Nat.{ℕ, zero, suc, _+_, _-_, _≤_, _<_}
 use native.Mathlib.Nat.{zero-add}
 use native.Mathlib.Omega.{arith}
-use lib.ListN.{getD, length}
+use lib.ListN.{getD}
 use Rattle.std.proofs.shelf.Lists.{getD-append-left, getD-append-right, getD-past}
 use Rattle.std.proofs.shelf.Tests.{cases-lt}
 use Rattle.std.specs.declared.option.Option.{Option}
 use Rattle.std.specs.declared.option.Option.the-variants.{None, Some}
 use Rattle.model.proofs.Laying.{length-tab}
-use Rattle.model.specs.Levels.{Grid, grid-of, look, row}
+use Rattle.model.specs.Levels.{grid-of, look, row}
 use Rattle.model.specs.Lists.{stretch, tab}
 use Rattle.model.specs.Networks.{Net}
 use Rattle.model.specs.Tables.{emitted, leg, legs-of}

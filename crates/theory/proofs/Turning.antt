@@ -1,13 +1,12 @@
 -- Networks, towers and walks turned round. Assumes nothing.
 use mathlib.Core.Bool.{Bool}
 use mathlib.Core.Logic.{_⊎_, inl, inr, ⊎-elim}
-use mathlib.Core.Path.{_≡_, refl, sym, ap, _∙_}
+use mathlib.Core.Path.{refl, sym, ap, _∙_}
 use Prim.Native.Nat.{ℕ}
-use Rattle.std.specs.declared.option.Option.the-variants.{Some}
 use Rattle.measure.specs.Meaning.{Meaning}
 use Rattle.model.specs.Networks.{Net, Walk, stop, step, cost}
 use Rattle.model.specs.Queries.{turned}
-use Rattle.theory.specs.Ascent.{Next, Over}
+use Rattle.theory.specs.Ascent.{Next}
 use Rattle.theory.specs.Laws.{Travel-laws}
 use Rattle.theory.specs.Towers.{Tower, back}
 use Rattle.theory.proofs.Climbing.{Costing}

@@ -1,10 +1,9 @@
 -- Weights and walks under the laws of travel. Assumes nothing.
-use mathlib.Core.Logic.{_⊎_, inl, inr, ⊎-elim}
-use mathlib.Core.Path.{_≡_, refl, sym, ap, subst, _∙_}
+use mathlib.Core.Logic.{_⊎_, ⊎-elim}
+use mathlib.Core.Path.{_≡_, sym, subst}
 use Prim.Native.Nat.{ℕ}
-use Rattle.std.specs.declared.option.Option.the-variants.{Some}
 use Rattle.measure.specs.Meaning.{Meaning, Lawful}
-use Rattle.model.specs.Networks.{Best, Net, Walk, stop, step, cost}
+use Rattle.model.specs.Networks.{Best, Net}
 use Rattle.model.specs.Queries.{turned}
 use Rattle.theory.specs.Ascent.{Best-is-unique}
 use Rattle.theory.specs.Laws.{No-worse, Travel-laws}

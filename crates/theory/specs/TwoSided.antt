@@ -1,11 +1,8 @@
 -- The search from both sides. Assumes nothing.
-use mathlib.Core.Logic.{_⊎_}
-use mathlib.Core.Path.{_≡_}
-use Prim.Native.Nat.{ℕ, _+_, _≤_}
+use Prim.Native.Nat.{ℕ}
 use Rattle.std.specs.declared.option.Option.{Option}
-use Rattle.std.specs.declared.option.Option.the-variants.{Some}
 use Rattle.measure.specs.Meaning.{Meaning}
-use Rattle.model.specs.Networks.{Net, Walk, cost}
+use Rattle.model.specs.Networks.{Net}
 use Rattle.model.specs.Queries.{Search, turned}
 use Rattle.theory.specs.Laws.{No-worse}
 use Rattle.theory.specs.Sides.{From-seed, Side, key-at}

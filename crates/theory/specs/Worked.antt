@@ -3,10 +3,8 @@ use mathlib.Core.List.{List, [], _∷_}
 use mathlib.Core.Path.{_≡_}
 use Prim.Native.Nat.{ℕ}
 use lib.ListN.{drop}
-use Rattle.std.specs.declared.option.Option.{Option}
 use Rattle.std.specs.declared.option.Option.the-variants.{None, Some}
 use Rattle.measure.specs.Clearance.{clearance-meaning, clearance-of}
-use Rattle.measure.specs.Meaning.{Meaning}
 use Rattle.measure.specs.Ticks.{ticks-meaning, ticks-of}
 use Rattle.measure.specs.declared.clearance.Clearance.{Clearance}
 use Rattle.measure.specs.declared.ticks.Ticks.{Ticks}
@@ -17,7 +15,6 @@ use Rattle.model.specs.Queries.{Answer, indexed-query, plain-query}
 use Rattle.model.specs.Tables.{Built, Lengths, build-refusal, built, entry, label-of}
 use Rattle.model.specs.declared.records.Entry.{Entry}
 use Rattle.model.specs.declared.records.Section.{Section}
-use Rattle.model.specs.declared.refusal.Refusal.{Refusal}
 use Rattle.model.specs.declared.refusal.Refusal.the-variants.{LabelsFull, LegsFull}
 
 -- A section.

@@ -7,8 +7,7 @@ use Rattle.std.specs.declared.result.Result.the-variants.{Ok}
 use Rattle.lists.specs.Places.{first-fault}
 use Rattle.lists.proofs.Failing.{demand-holds, demand-fails, fault-more, fault-here, fault-none}
 use Rattle.blockfile.specs.declared.fault.Flaw.the-variants.{Record}
-use Rattle.blockfile.specs.Blocks.{row-in}
-use Rattle.blockfile.specs.Judging.{record-judged, row-before, good-row}
+use Rattle.blockfile.specs.Judging.{record-judged, row-before}
 use Rattle.blockfile.proofs.Passed.{good-alike}
 use Rattle.blockfile.proofs.block.check_records.Needs as need
 
