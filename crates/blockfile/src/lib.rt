@@ -1,4 +1,5 @@
 // Networks in files: blocks of 512 bytes with check sums, a header and then the sections in order.
+#![tactic(auto)]
 
 mod block;
 pub mod fault;

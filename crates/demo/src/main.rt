@@ -1,5 +1,7 @@
 // Prices some walks of a small network under each house measure, names the best, sorts the stations by
 // their sections, and writes the network to a file and reads it.
+#![tactic(auto)]
+
 mod files;
 mod sections;
 mod walks;

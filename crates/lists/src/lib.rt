@@ -1,4 +1,5 @@
 // Bytes in slices: numbers with their lowest byte first, and writes over a part.
+#![tactic(auto)]
 
 ghost use Rattle.std.specs.Prelude.{◌≡◌, ◌+◌, ◌^◌, ◌<◌, ◌≤◌, length};
 ghost use Rattle.lists.specs.Bytes.{number, value};

@@ -1,4 +1,6 @@
 // Weights of travel: what a measure is, and the three measures of the house.
+#![tactic(auto)]
+
 ghost use Rattle.std.specs.Prelude.{◌≡◌};
 ghost use Rattle.measure.specs.Meaning.{Meaning, Lawful, Carries};
 

@@ -1,4 +1,6 @@
 // The records of the tables, the small types of the product, and in specs/ the definitions of all that it does.
+#![tactic(auto)]
+
 pub mod blanks;
 pub mod ends;
 pub mod lookup;

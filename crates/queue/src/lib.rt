@@ -1,4 +1,5 @@
 // One priority queue, a binary heap with positions, for every key with a total order.
+#![tactic(auto)]
 
 pub mod fresh;
 pub mod heap;

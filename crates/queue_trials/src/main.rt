@@ -1,4 +1,6 @@
 // Holds 100,000 turns of the queue against a plain scan.
+#![tactic(auto)]
+
 mod scan;
 mod sides;
 #[cfg(test)]

@@ -1,4 +1,6 @@
 // The theorems about the definitions, each on the contract of a small function for any measure.
+#![tactic(auto)]
+
 ghost use Rattle.theory.specs.Ascent.{AscentPreserves, BestIsUnique};
 ghost use Rattle.theory.specs.Building.{BuildsAnswerRight, LevelsAnswer, LevelsStand, QueriesAgree, SectionsMakeANetwork};
 ghost use Rattle.theory.specs.Indexed.{IndexedIsRight, SettlesFew};

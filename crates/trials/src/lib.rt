@@ -1,4 +1,6 @@
 // Examples that a reader wants to see run, and a measure of two weights that generic code must bear.
+#![tactic(auto)]
+
 #[cfg(test)]
 mod files;
 #[cfg(test)]

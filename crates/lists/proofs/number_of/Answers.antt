@@ -12,19 +12,19 @@ loop-left-init c = (
   rw sub_self (omega arith),
 )
 
-pub overflow-mul-sum : goal.overflow-mul-sum
-overflow-mul-sum c = omega (arith, power_room (length c.args.bytes.now) c.loop-left.left c.requires c.loop-left-test.true)
+pub overflow_mul-sum : goal.overflow_mul-sum
+overflow_mul-sum c = omega (arith, power_room (length c.args.bytes.now) c.loop-left.left c.requires c.loop-left-test.true)
 
-pub overflow-add-sum : goal.overflow-add-sum
-overflow-add-sum c =
+pub overflow_add-sum : goal.overflow_add-sum
+overflow_add-sum c =
     omega (
       arith,
       power_room (length c.args.bytes.now) c.loop-left.left c.requires c.loop-left-test.true,
-      c.type-inv.bytes (c.loop-left.left - 1),
+      c.type_inv.bytes (c.loop-left.left - 1),
     )
 
 pub loop-left-preserved : goal.loop-left-preserved
 loop-left-preserved c =
     let more = number_more c.args.bytes.now c.loop-left.left c.loop-left-test.true c.loop-left.invariant.0 in
     let power = power_more (length c.args.bytes.now) c.loop-left.left c.loop-left-test.true c.loop-left.invariant.0 in
-    (omega arith, ap (λ n. n * 256 + get_or c.args.bytes.now (c.loop-left.left - 1) 0) c.loop-left.invariant.1 ∙ more, omega (arith, power, c.type-inv.bytes (c.loop-left.left - 1)))
+    (omega arith, ap (λ n. n * 256 + get_or c.args.bytes.now (c.loop-left.left - 1) 0) c.loop-left.invariant.1 ∙ more, omega (arith, power, c.type_inv.bytes (c.loop-left.left - 1)))

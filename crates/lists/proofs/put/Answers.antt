@@ -5,5 +5,5 @@ use Rattle.lists.proofs.put.Goals as goal
 
 pub returns : goal.returns
 returns c =
-    ap (put_mid c.args.at _ c.args.block.now) c.copy-from-slice.ensures.after
+    ap (put_mid c.args.at _ c.args.block.now) c.copy_from_slice.ensures.after
     ∙ put_mid_over c.args.at _ c.args.block.now c.args.bytes.now (omega arith)

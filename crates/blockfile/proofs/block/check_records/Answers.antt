@@ -14,12 +14,12 @@ loop-place-init g c = (
   refl,
 )
 
-pub returns-then-not-is-good : goal.returns-then-not-is-good
-returns-then-not-is-good g c =
+pub returns-then-not-is_good : goal.returns-then-not-is_good
+returns-then-not-is_good g c =
     let readable = g.N.Numbers.readable in
     let b = c.args.block.now in
     let place = c.loop-place.place in
-    let bad = good_alike c.args.n readable c.args.before b place c.loop-place.invariant.1 c.row-in-row.ensures c.is-good.ensures ∙ c.if-not-is-good.true in
+    let bad = good_alike c.args.n readable c.args.before b place c.loop-place.invariant.1 c.row_in-row.ensures c.is_good.ensures ∙ c.if-not-is_good.true in
     sym (c.loop-place.invariant.0
     ∙ fault_here (record_judged c.args.n readable c.args.before b) c.args.count place (Record (8 + 12 * place)) c.loop-place-test.true
     (demand_fails _ (Record (8 + 12 * place)) (Ok tt) bad))
@@ -29,11 +29,11 @@ loop-place-preserved g c =
     let readable = g.N.Numbers.readable in
     let b = c.args.block.now in
     let place = c.loop-place.place in
-    let good = good_alike c.args.n readable c.args.before b place c.loop-place.invariant.1 c.row-in-row.ensures c.is-good.ensures ∙ c.if-not-is-good.false in (
+    let good = good_alike c.args.n readable c.args.before b place c.loop-place.invariant.1 c.row_in-row.ensures c.is_good.ensures ∙ c.if-not-is_good.false in (
       c.loop-place.invariant.0
           ∙ fault_more (record_judged c.args.n readable c.args.before b) c.args.count place c.loop-place-test.true
           (demand_holds _ (Record (8 + 12 * place)) (Ok tt) good),
-      ap Some c.row-in-row.ensures ∙ ap (row_before c.args.before b) (sym (add-one place)),
+      ap Some c.row_in-row.ensures ∙ ap (row_before c.args.before b) (sym (add-one place)),
     )
 
 pub returns : goal.returns

@@ -11,7 +11,7 @@ pub loop-i-preserved : goal.loop-i-preserved
 loop-i-preserved c =
     let i = c.loop-i.i in
     let row = get_or c.args.rows.now i blank_row in
-    c.put-row.ensures
+    c.put_row.ensures
     ∙ ap (λ b. over b (8 + 12 * i) (entry_of row)) c.loop-i.invariant
     ∙ entries_more c.args.block.now c.args.rows.now i row (omega arith) c.loop-i-test.true refl
 

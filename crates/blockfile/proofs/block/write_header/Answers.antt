@@ -12,12 +12,12 @@ returns c =
     let start = front (header_front c.args.code) in
     let stations = le 2 c.args.n in
     let total = le 4 c.args.total in
-    let first : c.put-front.new.block ≡ filled 512 start = c.put-front.ensures ∙ filled_over 512 0 [] start refl in
+    let first : c.put_front.new.block ≡ filled 512 start = c.put_front.ensures ∙ filled_over 512 0 [] start refl in
     let second : c.put.new.block ≡ filled 512 (start ++ stations) =
-    c.put.ensures ∙ ap₂ (λ b s. over b 8 s) first c.to-le-bytes.ensures ∙ filled_over 512 8 start stations refl
+    c.put.ensures ∙ ap₂ (λ b s. over b 8 s) first c.to_le_bytes.ensures ∙ filled_over 512 8 start stations refl
     in
     let third : c.put-2.new.block ≡ filled 512 ((start ++ stations) ++ total) =
-    c.put-2.ensures ∙ ap₂ (λ b s. over b 10 s) second (c.to-le-bytes-2.ensures ∙ le_four c.args.total)
+    c.put-2.ensures ∙ ap₂ (λ b s. over b 10 s) second (c.to_le_bytes-2.ensures ∙ le_four c.args.total)
     ∙ filled_over 512 10 (start ++ stations) total refl
     in
-    c.copy-from-slice.ensures.after ∙ c.seal.ensures ∙ built c.put-2.new.block (start ++ (stations ++ total)) third (omega arith)
+    c.copy_from_slice.ensures.after ∙ c.seal.ensures ∙ built c.put-2.new.block (start ++ (stations ++ total)) third (omega arith)

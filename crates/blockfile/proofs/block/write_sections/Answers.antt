@@ -10,9 +10,9 @@ pub returns : goal.returns
 returns c =
     let rows = c.args.rows.now in
     let start = front (section_front c.args.number (length rows) c.args.code) in
-    let first : c.put-front.new.block ≡ filled 512 start = c.put-front.ensures ∙ filled_over 512 0 [] start refl in
-    let second : c.put-rows.new.block ≡ filled 512 (start ++ flat_map entry_of rows) =
-    c.put-rows.ensures ∙ ap (λ b. over b 8 (flat_map entry_of rows)) first ∙ filled_over 512 8 start (flat_map entry_of rows) refl
+    let first : c.put_front.new.block ≡ filled 512 start = c.put_front.ensures ∙ filled_over 512 0 [] start refl in
+    let second : c.put_rows.new.block ≡ filled 512 (start ++ flat_map entry_of rows) =
+    c.put_rows.ensures ∙ ap (λ b. over b 8 (flat_map entry_of rows)) first ∙ filled_over 512 8 start (flat_map entry_of rows) refl
     in
-    c.copy-from-slice.ensures.after ∙ c.seal.ensures
-    ∙ built c.put-rows.new.block (start ++ flat_map entry_of rows) second (omega (arith, length_entries rows))
+    c.copy_from_slice.ensures.after ∙ c.seal.ensures
+    ∙ built c.put_rows.new.block (start ++ flat_map entry_of rows) second (omega (arith, length_entries rows))

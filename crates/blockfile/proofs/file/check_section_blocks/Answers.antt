@@ -13,34 +13,34 @@ loop-j-init g c =
     ap (λ k. first_fault (block_judged c.args.n g.N.Numbers.readable c.args.code file (total_in file)) k 0)
     (sym (sub-zero (length file / 512 - 1)))
 
-pub returns-in-err-check-sections : goal.returns-in-err-check-sections
-returns-in-err-check-sections g c =
+pub returns-in_err-check_sections : goal.returns-in_err-check_sections
+returns-in_err-check_sections g c =
     let file = c.args.file.now in
     let j = c.loop-j.j in
-    let p = err_from_is_err_and c.from-residual.result c.from-residual.ensures.1 in
-    let count = c.count-in.ensures.count ∙ ap (λ t. count_in t j) c.total-of-total.ensures.value in
+    let p = err_from_is_err_and c.from_residual.result c.from_residual.ensures.1 in
+    let count = c.count_in.ensures.count ∙ ap (λ t. count_in t j) c.total_of-total.ensures.value in
     let judged =
-    judged_alike c.args.n g.N.Numbers.readable c.args.code file j count c.row-before.ensures c.block-of.ensures.bytes
-    c.check-sections.ensures
+    judged_alike c.args.n g.N.Numbers.readable c.args.code file j count c.row_before.ensures c.block_of.ensures.bytes
+    c.check_sections.ensures
     in
     p.1
     ∙ ap Err p.2
     ∙ sym (c.loop-j.invariant
     ∙ fault_here (block_judged c.args.n g.N.Numbers.readable c.args.code file (total_in file)) (length file / 512 - 1) j
-    c.in-err-check-sections.field-0.0 c.loop-j-test.true (judged ∙ c.in-err-check-sections.was))
+    c.in_err-check_sections.field-0.0 c.loop-j-test.true (judged ∙ c.in_err-check_sections.was))
 
 pub loop-j-preserved : goal.loop-j-preserved
 loop-j-preserved g c =
     let file = c.args.file.now in
     let j = c.loop-j.j in
-    let count = c.count-in.ensures.count ∙ ap (λ t. count_in t j) c.total-of-total.ensures.value in
+    let count = c.count_in.ensures.count ∙ ap (λ t. count_in t j) c.total_of-total.ensures.value in
     let judged =
-    judged_alike c.args.n g.N.Numbers.readable c.args.code file j count c.row-before.ensures c.block-of.ensures.bytes
-    c.check-sections.ensures
+    judged_alike c.args.n g.N.Numbers.readable c.args.code file j count c.row_before.ensures c.block_of.ensures.bytes
+    c.check_sections.ensures
     in
     c.loop-j.invariant
     ∙ fault_more (block_judged c.args.n g.N.Numbers.readable c.args.code file (total_in file)) (length file / 512 - 1) j
-    c.loop-j-test.true (judged ∙ c.in-ok-check-sections.was)
+    c.loop-j-test.true (judged ∙ c.in_ok-check_sections.was)
 
 pub returns : goal.returns
 returns g c =

@@ -5,5 +5,5 @@ use Rattle.blockfile.proofs.file.row_before.Goals as goal
 
 pub returns : goal.returns
 returns c =
-    ap Some (c.row-in.ensures ∙ ap (λ b. row_in b 40) c.block-of.ensures.bytes)
+    ap Some (c.row_in.ensures ∙ ap (λ b. row_in b 40) c.block_of.ensures.bytes)
     ∙ sym (before_is c.args.file.now c.args.j (omega arith))

@@ -15,18 +15,18 @@ returns c =
     let rows = c.args.rows.now in
     let room : has_room (length d) (length rows) ≡ true =
     and_from (whole_blocks (length d)) (leb (file_size (length rows)) (length d))
-    (sym c.is-whole.ensures ∙ c.if-not-is-whole.false) (le-leb (file_size (length rows)) (length d) (omega arith))
+    (sym c.is_whole.ensures ∙ c.if-not-is_whole.false) (le-leb (file_size (length rows)) (length d) (omega arith))
     in
-    let written : c.write-section-blocks.new.buffer ≡ over d 0 (file_of c.args.n c.args.code rows) =
-    c.write-section-blocks.ensures
-    ∙ ap (λ h. over (put_mid 0 512 d h) 512 (section_part c.args.code rows (blocks_for (length rows)))) c.write-header.ensures
+    let written : c.write_section_blocks.new.buffer ≡ over d 0 (file_of c.args.n c.args.code rows) =
+    c.write_section_blocks.ensures
+    ∙ ap (λ h. over (put_mid 0 512 d h) 512 (section_part c.args.code rows (blocks_for (length rows)))) c.write_header.ensures
     ∙ file_over c.args.n c.args.code d rows (omega arith)
     in
     record {
       answer =
-          ap (λ k. Ok (512 * (1 + k))) c.section-blocks.ensures
+          ap (λ k. Ok (512 * (1 + k))) c.section_blocks.ensures
           ∙ sym (cond-true (has_room (length d) (length rows)) (Ok (file_size (length rows))) (Err Length) room);
       buffer = written
           ∙ sym (cond-true (has_room (length d) (length rows)) (over d 0 (file_of c.args.n c.args.code rows)) d room);
-      reads_back = reads_back c.args.n c.args.code rows d c.write-section-blocks.new.buffer c.section-blocks.result c.ranges.n.fits c.requires c.section-blocks.ensures written;
+      reads_back = reads_back c.args.n c.args.code rows d c.write_section_blocks.new.buffer c.section_blocks.result c.ranges.n.fits c.requires c.section_blocks.ensures written;
     }

@@ -10,6 +10,6 @@ loop-j-init c = sym (take-append-drop 512 c.args.buffer.now)
 
 pub loop-j-preserved : goal.loop-j-preserved
 loop-j-preserved c =
-    blocks_more c.args.buffer.now c.args.code c.args.rows.now c.loop-j.j _ c.loop-j.buffer c.write-sections.new.out
+    blocks_more c.args.buffer.now c.args.code c.args.rows.now c.loop-j.j _ c.loop-j.buffer c.write_sections.new.out
     (omega arith) (omega arith) c.loop-j.invariant
-    (c.write-sections.ensures ∙ ap (section_block c.args.code (c.loop-j.j + 1)) c.chunk-of.ensures.rows)
+    (c.write_sections.ensures ∙ ap (section_block c.args.code (c.loop-j.j + 1)) c.chunk_of.ensures.rows)

@@ -7,7 +7,7 @@ use Rattle.demo.proofs.walks.steps.Goals as goal
 pub loop-next-preserved : goal.loop-next-preserved
 loop-next-preserved g c =
     let more = steps_more g.M.Measure.meaning c.args.sections.now c.loop-next.at c.args.rest.now c.loop-next.next-index (vec_items c.loop-next.weights) c.loop-next-test.true in
-    let pushed = c.in-ok-push.ensures.items in
+    let pushed = c.in_ok-push.ensures.items in
     (omega arith, rw (pushed, c.step.ensures) (more ∙ c.loop-next.invariant.1))
 
 pub returns : goal.returns

@@ -5,7 +5,7 @@ use Rattle.measure.proofs.rows.best_of.Goals as goal
 
 pub loop-w-preserved : goal.loop-w-preserved
 loop-w-preserved g c =
-    let more = rw c.loop-w.invariant.1 at c.better-of-two-sum.ensures in
+    let more = rw c.loop-w.invariant.1 at c.better_of_two-sum.ensures in
     (omega arith, more ∙ total_more (bettering g.met.M.Measure.lawful) c.args.weights.now c.loop-w.w-index _ c.loop-w-test.true (search rules))
 
 pub returns : goal.returns

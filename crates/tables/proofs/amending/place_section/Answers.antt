@@ -12,10 +12,10 @@ returns-then-there g c =
     let n = c.args.count in
     let place = c.locate-place.result.0 in
     let x = section_of c.args.ends.low c.args.ends.high c.args.weight in
-    let after = set xs place c.section-of-section.result in
+    let after = set xs place c.section_of-section.result in
     let whole : (ascends (take n xs) ≡ true → Placing xs n x (Some n) after) = λ up.
     let (count, written) = placing_there xs n x place c.requires (c.locate-place.ensures.first up) (sym c.locate-place.ensures.there ∙ c.if-there.true) in
-    (count, ap (λ y. set xs place y) c.section-of-section.ensures ∙ written) in
+    (count, ap (λ y. set xs place y) c.section_of-section.ensures ∙ written) in
     record { padded = placing_padded xs n x (Some n) after whole; whole = whole }
 
 pub returns-then-count-table : goal.returns-then-count-table
@@ -36,5 +36,5 @@ returns g c =
     let after = c.insert.new.table in
     let whole : (ascends (take n xs) ≡ true → Placing xs n x (Some (n + 1)) after) = λ up.
     let (count, shifted) = placing_new xs n x place (omega arith) (c.locate-place.ensures.first up) (sym c.locate-place.ensures.there ∙ c.if-there.false) in
-    (count, c.insert.ensures ∙ ap (λ y. insert (take n xs) place y ++ drop (n + 1) xs) c.section-of-section.ensures ∙ shifted) in
+    (count, c.insert.ensures ∙ ap (λ y. insert (take n xs) place y ++ drop (n + 1) xs) c.section_of-section.ensures ∙ shifted) in
     record { padded = placing_padded xs n x (Some (n + 1)) after whole; whole = whole }

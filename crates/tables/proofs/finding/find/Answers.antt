@@ -6,13 +6,13 @@ pub loop-from-init : goal.loop-from-init
 loop-from-init g c =
     (omega arith, omega arith, λ _. omega arith, place_within c.low-low.result c.high-high.result c.args.sections.now)
 
-pub loop-from-preserved-then-comes-before : goal.loop-from-preserved-then-comes-before
-loop-from-preserved-then-comes-before g c =
+pub loop-from-preserved-then-comes_before : goal.loop-from-preserved-then-comes_before
+loop-from-preserved-then-comes_before g c =
     let middle = c.loop-from.from + (c.loop-from.to - c.loop-from.from) / 2 in
     let below : middle < length c.args.sections.now = omega arith in (
       omega arith,
       omega arith,
-      λ up. omega (arith, below_place 0 0 c.low-low.result c.high-high.result c.args.sections.now middle c.index-sections-middle.result up below c.index-sections-middle.is (sym c.if-comes-before.ensures)),
+      λ up. omega (arith, below_place 0 0 c.low-low.result c.high-high.result c.args.sections.now middle c.index-sections-middle.result up below c.index-sections-middle.is (sym c.if-comes_before.ensures)),
       c.loop-from.invariant.3,
     )
 
@@ -23,5 +23,5 @@ loop-from-preserved g c =
       omega arith,
       omega arith,
       c.loop-from.invariant.2,
-      from_place c.low-low.result c.high-high.result c.args.sections.now middle c.index-sections-middle.result below c.index-sections-middle.is (sym c.if-comes-before.ensures),
+      from_place c.low-low.result c.high-high.result c.args.sections.now middle c.index-sections-middle.result below c.index-sections-middle.is (sym c.if-comes_before.ensures),
     )

@@ -9,6 +9,6 @@ returns-then-place-sections g c = has_at_past c.args.place c.args.ends.low c.arg
 pub returns : goal.returns
 returns g c =
     let ss = c.args.sections.now in
-    c.has-ends.ensures
+    c.has_ends.ensures
     ∙ has_at_read c.args.place c.low-low.result c.high-high.result ss c.index-sections-place.result (omega arith) c.index-sections-place.is
     ∙ ap₂ (λ low high. has_at c.args.place low high ss) c.low-low.ensures c.high-high.ensures

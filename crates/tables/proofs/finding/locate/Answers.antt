@@ -14,7 +14,7 @@ returns g c =
     record {
       within = omega (arith, c.find-place.ensures.within);
       first = c.find-place.ensures.first;
-      there = c.has-at-there.ensures;
-      used = λ has. omega (arith, has_at_within place low high ss (sym c.has-at-there.ensures ∙ has));
-      known = λ up. c.has-at-there.ensures ∙ ap (λ p. has_at p low high ss) (c.find-place.ensures.first up) ∙ has_at_place 0 0 low high ss up;
+      there = c.has_at-there.ensures;
+      used = λ has. omega (arith, has_at_within place low high ss (sym c.has_at-there.ensures ∙ has));
+      known = λ up. c.has_at-there.ensures ∙ ap (λ p. has_at p low high ss) (c.find-place.ensures.first up) ∙ has_at_place 0 0 low high ss up;
     }

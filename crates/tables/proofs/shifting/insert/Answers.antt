@@ -4,5 +4,5 @@ use Rattle.tables.proofs.shifting.insert.Goals as goal
 
 pub returns : goal.returns
 returns g c =
-    ap (λ zs. set zs c.args.place c.args.item) c.copy-within.ensures.after
+    ap (λ zs. set zs c.args.place c.args.item) c.copy_within.ensures.after
     ∙ gap_made c.args.table.now c.args.count c.args.place c.args.item c.requires.used c.requires.room

@@ -4,5 +4,5 @@ use Rattle.tables.proofs.shifting.remove.Goals as goal
 
 pub returns : goal.returns
 returns g c =
-    ap (λ zs. set zs (c.args.count - 1) c.args.blank) c.copy-within.ensures.after
+    ap (λ zs. set zs (c.args.count - 1) c.args.blank) c.copy_within.ensures.after
     ∙ gap_closed c.args.table.now c.args.count c.args.place c.args.blank c.requires.used c.requires.within

@@ -27,7 +27,7 @@ returns g c marks holds =
     let top = top_known g.L.Lane.key g.L.Lane.mark g.W.Rank.leb marks c.args.keys.now c.args.self.now
     holds.listed some in
     sym (top_least g.W.Rank.leb g.met.W.Rank.total g.met.W.Rank.transitive c.args.self.now xs holds some
-    c.key-of.result
+    c.key_of.result
     (top.2
-    ∙ key_read g.L.Lane.key c.args.keys.now _ c.index-keys-s.result c.key-of.result top.1
-    c.index-keys-s.is c.key-of.ensures))
+    ∙ key_read g.L.Lane.key c.args.keys.now _ c.index-keys-s.result c.key_of.result top.1
+    c.index-keys-s.is c.key_of.ensures))

@@ -30,12 +30,12 @@ sink-requires g c =
     take_prepared g.L.Lane.key g.L.Lane.mark g.W.Rank.leb g.met.W.Rank.total g.met.W.Rank.transitive
     c.args.marks.now c.args.keys.now c.args.self.now c.requires c.in-Some.found
     (sym (c.in-Some.ensures c.args.marks.now c.requires)) g.L.Lane.marked g.met.L.Lane.shows
-    c.with-mark.result c.with-mark.ensures c.lower.new.self c.lower.ensures
+    c.with_mark.result c.with_mark.ensures c.lower.new.self c.lower.ensures
 
 pub returns : goal.returns
 returns g c =
     take_done g.L.Lane.key g.L.Lane.mark g.W.Rank.leb g.met.W.Rank.total g.met.W.Rank.transitive
     c.args.marks.now c.args.keys.now c.args.self.now c.requires c.in-Some.found
     (sym (c.in-Some.ensures c.args.marks.now c.requires)) g.L.Lane.marked g.met.L.Lane.shows
-    c.with-mark.result c.with-mark.ensures c.lower.new.self c.lower.ensures c.sink.new.self
+    c.with_mark.result c.with_mark.ensures c.lower.new.self c.lower.ensures c.sink.new.self
     c.sink.ensures.sifted c.sink.ensures.ordered

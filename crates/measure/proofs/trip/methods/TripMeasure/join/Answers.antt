@@ -7,4 +7,4 @@ pub returns : goal.returns
 returns c = trip_same _ _ (omega arith) (grind (arith, nat_tests))
 
 pub returns-then-ticks : goal.returns-then-ticks
-returns-then-ticks c = c.no-way.ensures ∙ trip_same _ _ (omega arith) (grind (arith, nat_tests))
+returns-then-ticks c = c.no_way.ensures ∙ trip_same _ _ (omega arith) (grind (arith, nat_tests))
