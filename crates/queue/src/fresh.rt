@@ -24,7 +24,7 @@ fn numbered() -> [u16; ROOM]
 impl<L, W: Rank> Queue<L, W> {
     // A queue in which no station waits.
     pub fn new() -> Queue<L, W>
-        ensures { (n : ℕ) → Holds leb result (replicate n Free) }
+        ensures { (n : ℕ) → Holds W.leb result (replicate n Free) }
     {
         let items = numbered();
         let at = numbered();
@@ -38,7 +38,7 @@ impl<L, W: Rank> Queue<L, W> {
 
     // How many stations wait.
     pub fn len(&self) -> usize
-        ensures { (xs : List (SlotOf W)) → Holds leb self.now xs → result ≡ waiting xs }
+        ensures { (xs : List (SlotOf W)) → Holds W.leb self.now xs → result ≡ waiting xs }
     {
         self.len
     }

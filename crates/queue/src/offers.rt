@@ -13,7 +13,7 @@ use model::slot::Slot;
 // Blanks the marks and gives a new queue over them.
 pub fn start<L: Lane<R, W>, R: Copy, W: Rank>(marks: &mut [u8], keys: &[R]) -> Queue<L, W>
     requires { length marks.old ≤ length keys.now }
-    ensures { Holds leb result (slots key mark marks.new keys.now) }
+    ensures { Holds W.leb result (slots L.key L.mark marks.new keys.now) }
 {
     marks.fill(0);
     Queue::new()
@@ -21,7 +21,7 @@ pub fn start<L: Lane<R, W>, R: Copy, W: Rank>(marks: &mut [u8], keys: &[R]) -> Q
 
 // Whether a station in this slot may be given the key `k`.
 pub fn takes<W: Rank>(slot: Slot<W>, k: W) -> bool
-    ensures { result ≡ may_take leb k slot }
+    ensures { result ≡ may_take W.leb k slot }
 {
     match slot {
         Slot::Free => true,
@@ -38,9 +38,9 @@ pub fn offer<L: Lane<R, W>, R: Copy, W: Rank>(
     s: usize,
     k: W,
 ) -> bool
-    requires { Holds leb queue.old (slots key mark marks.old keys.old) }
-    ensures view { slots key mark marks.new keys.new ≡ (if result then slice_set (slots key mark marks.old keys.old) s (Waits k) else slots key mark marks.old keys.old) }
-    ensures holds { Holds leb queue.new (slots key mark marks.new keys.new) }
+    requires { Holds W.leb queue.old (slots L.key L.mark marks.old keys.old) }
+    ensures view { slots L.key L.mark marks.new keys.new ≡ (if result then slice_set (slots L.key L.mark marks.old keys.old) s (Waits k) else slots L.key L.mark marks.old keys.old) }
+    ensures holds { Holds W.leb queue.new (slots L.key L.mark marks.new keys.new) }
 {
     if s >= ROOM || s >= marks.len() || s >= keys.len() {
         return false;
