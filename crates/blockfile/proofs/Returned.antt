@@ -3,7 +3,7 @@ use Rattle.std.proofs.Common.{◌≡◌, ℕ, ◌+◌, ◌-◌, ◌*◌, ◌^◌
 use Rattle.std.specs.List.{flat_map}
 use Rattle.std.proofs.lemmas.Bool.{eq-eqb, and_from}
 use Rattle.std.proofs.lemmas.List.{get_or_append_left, get_or-append_right, get_or-replicate, length-take-le}
-use Rattle.lists.specs.Bytes.{le, number, value}
+use Rattle.lists.specs.Bytes.{le, value}
 use Rattle.lists.specs.Writes.{filled}
 use Rattle.lists.specs.Places.{then, first_fault}
 use Rattle.lists.proofs.Cuts.{joined_append, around}

@@ -1,5 +1,5 @@
 -- The measure of clearance. Assumes nothing.
-use Rattle.std.specs.Prelude.{ℕ, min, Bool, cond, ◌&&◌, leb, List, ◌++◌, Some, None, codes, decimal, Option, ◌==◌, nat_le}
+use Rattle.std.specs.Prelude.{ℕ, min, Bool, cond, ◌&&◌, List, ◌++◌, Some, None, codes, decimal, Option, ◌==◌, nat_le}
 use Rattle.std.proofs.Math.Nat.{min-le_right}
 use Rattle.measure.specs.Meaning.{Meaning}
 use Rattle.measure.specs.declared.clearance.Clearance.{Clearance}

@@ -1,5 +1,5 @@
 -- The measure of ticks and transfers. Assumes nothing.
-use Rattle.std.specs.Prelude.{ℕ, ◌+◌, ◌*◌, ◌/◌, ◌%◌, min, Bool, cond, ◌&&◌, ◌||◌, leb, List, ◌++◌, Some, None, codes, decimal, Option, ◌==◌, nat_le, nat_lt}
+use Rattle.std.specs.Prelude.{ℕ, ◌+◌, ◌*◌, ◌/◌, ◌%◌, min, Bool, cond, ◌&&◌, ◌||◌, List, ◌++◌, Some, None, codes, decimal, Option, ◌==◌, nat_le, nat_lt}
 use Rattle.measure.specs.Meaning.{Meaning}
 use Rattle.measure.specs.Ticks.{ticks_top, fit_ticks}
 use Rattle.measure.specs.Bounds.{trip_bounds}

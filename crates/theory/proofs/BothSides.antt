@@ -1,12 +1,12 @@
 -- The search from both sides, turn by turn. Assumes nothing.
-use Rattle.std.proofs.Common.{◌≡◌, ℕ, zero, suc, ◌+◌, ◌<◌, ◌≤◌, Bool, true, false, ◌⊎◌, List, length, set, Some, None, Option, sym, refl, ap, ◌∙◌, subst, ⊎_elim, arith, length-set}
+use Rattle.std.proofs.Common.{◌≡◌, ℕ, zero, suc, ◌+◌, ◌<◌, ◌≤◌, Bool, true, false, List, length, set, Some, None, Option, sym, refl, ap, ◌∙◌, subst, ⊎_elim, arith, length-set}
 use Rattle.std.proofs.lemmas.List.{get_or_past}
 use Rattle.std.proofs.lemmas.Bool.{both_ways, cases_lt, not-false}
 use Rattle.measure.specs.Meaning.{Meaning, better}
 use Rattle.model.specs.Levels.{Grid}
 use Rattle.model.specs.Lists.{by_some, choose}
 use Rattle.model.specs.Networks.{Net, Walk, cost}
-use Rattle.model.specs.Queries.{Search, forward_step, next_step, reached, relaxed, reverse_step, turned, two_sided}
+use Rattle.model.specs.Queries.{Search, forward_step, next_step, reached, reverse_step, turned, two_sided}
 use Rattle.model.specs.Slots.{is_settled, key_of, least_from, settling}
 use Rattle.model.specs.declared.slot.Slot.{Slot}
 use Rattle.model.specs.declared.slot.Slot.TheVariants.{Free, Settled, Waits}

@@ -1,5 +1,5 @@
 -- What settling a station on one side does to the best so far. Assumes nothing.
-use Rattle.std.proofs.Common.{◌≡◌, ℕ, ◌<◌, Bool, true, false, cond, ◌⊎◌, List, [], ◌∷◌, length, set, Some, sym, refl, subst, inl, inr, ⊎_elim, length-set, get_or-set_other, get_or-set_same}
+use Rattle.std.proofs.Common.{◌≡◌, ℕ, ◌<◌, Bool, true, false, cond, List, [], ◌∷◌, length, set, Some, sym, refl, subst, inl, inr, ⊎_elim, length-set, get_or-set_other, get_or-set_same}
 use Rattle.std.proofs.lemmas.Bool.{cases_eq, cond_both}
 use Rattle.measure.specs.Meaning.{Meaning, better_of}
 use Rattle.model.specs.Queries.{improves, met, reached, relaxed}

@@ -1,5 +1,5 @@
 -- Networks, towers and walks turned round. Assumes nothing.
-use Rattle.std.proofs.Common.{ℕ, Bool, ◌⊎◌, sym, refl, ap, ◌∙◌, inl, inr, ⊎_elim}
+use Rattle.std.proofs.Common.{ℕ, Bool, sym, refl, ap, ◌∙◌, inl, inr, ⊎_elim}
 use Rattle.measure.specs.Meaning.{Meaning}
 use Rattle.model.specs.Networks.{Net, Walk, stop, step, cost}
 use Rattle.model.specs.Queries.{turned}

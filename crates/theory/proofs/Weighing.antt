@@ -1,5 +1,5 @@
 -- Weights and walks under the laws of travel. Assumes nothing.
-use Rattle.std.proofs.Common.{◌≡◌, ℕ, ◌⊎◌, sym, subst, ⊎_elim}
+use Rattle.std.proofs.Common.{◌≡◌, ℕ, sym, subst, ⊎_elim}
 use Rattle.measure.specs.Meaning.{Meaning, Lawful}
 use Rattle.model.specs.Networks.{Best, Net}
 use Rattle.model.specs.Queries.{turned}

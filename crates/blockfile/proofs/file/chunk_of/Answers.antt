@@ -1,4 +1,4 @@
-use Rattle.std.proofs.Common.{◌≡◌, ◌+◌, ◌-◌, ◌*◌, min, length, take, drop, ap, ◌∙◌, arith}
+use Rattle.std.proofs.Common.{◌≡◌, ◌+◌, ◌-◌, ◌*◌, length, take, drop, ap, ◌∙◌, arith}
 use Rattle.lists.proofs.Cuts.{part_is, part_short}
 use Rattle.blockfile.specs.Files.{chunk}
 use Rattle.blockfile.proofs.Chunks.{length_chunk}
