@@ -4,7 +4,7 @@ ghost use Rattle.std.specs.Prelude.{◌≡◌, ◌+◌, ◌*◌, ◌^◌, ◌<�
 ghost use Rattle.std.specs.List.{flat_map};
 ghost use Rattle.lists.specs.Writes.{over};
 ghost use Rattle.lists.specs.Places.{first_fault};
-ghost use Rattle.blockfile.specs.Blocks.{front as front_Bytes, first_check, second_check, sealed, header, entry_of, section_block, row_in, checks_hold};
+ghost use Rattle.blockfile.specs.Blocks.{front as front_bytes, first_check, second_check, sealed, header, entry_of, section_block, row_in, checks_hold};
 ghost use Rattle.blockfile.specs.Judging.{front_judged, unused_judged, blocks_for, sizes_judged, header_judged, good_row, record_judged, sections_judged, at_block};
 
 use crate::fault::{BlockFault, Flaw};
@@ -60,7 +60,7 @@ fn put_front(block: &mut [u8], front: Front)
     requires long { length block.old ≡ 512 }
     requires number { front.number < 2 ^ 32 }
     requires count { front.count < 2 ^ 16 }
-    ensures { block.new ≡ over block.old 0 (front_Bytes front) }
+    ensures { block.new ≡ over block.old 0 (front_bytes front) }
 {
     put(block, 0, &(front.number as u32).to_le_bytes());
     put(block, 4, &(front.count as u16).to_le_bytes());
