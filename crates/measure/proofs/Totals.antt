@@ -1,6 +1,5 @@
 -- Rows of weights under an operation with a unit. Assumes nothing.
-use Rattle.std.proofs.Common.{◌≡◌, ℕ, ◌+◌, ◌<◌, Bool, true, false, List, [], ◌∷◌, ◌++◌, length, get_or, take, sym, refl, ap, ◌∙◌, ⊎_elim}
-use Rattle.std.proofs.lemmas.List.{take_more}
+use Rattle.std.proofs.Common.{◌≡◌, Bool, true, false, List, [], ◌∷◌, ◌++◌, sym, refl, ap, ◌∙◌, ⊎_elim}
 use Rattle.std.proofs.lemmas.Bool.{both_ways, cond_both, cond-true}
 use Rattle.measure.specs.Meaning.{Meaning, Lawful, better_of, total}
 
@@ -11,15 +10,10 @@ pub record Unital {W : Type 0} (unit : W) (op : W → W → W) : Type 0 where
   pub assoc : (x y z : W) → op (op x y) z ≡ op x (op y z)
 
 module _ {W : Type 0} {unit : W} {op : W → W → W} (laws : Unital unit op) where
+  -- one weight more of a row
   pub total_push : (xs : List W) (x : W) → total unit op (xs ++ (x ∷ [])) ≡ op (total unit op xs) x
   total_push [] x = laws.right x ∙ sym (laws.left x)
   total_push (y ∷ xs) x = ap (op y) (total_push xs x) ∙ sym (laws.assoc y (total unit op xs) x)
-
-  -- one weight more of a row
-  pub total_more : (xs : List W) (i : ℕ) (x : W) → i < length xs → x ≡ get_or xs i x → op (total unit op (take i xs)) x ≡ total unit op (take (i + 1) xs)
-  total_more xs i x within read =
-      let pushed : take (i + 1) xs ≡ take i xs ++ (x ∷ []) = take_more xs i x within ∙ ap (λ y. take i xs ++ (y ∷ [])) (sym read) in
-      sym (ap (total unit op) pushed ∙ total_push (take i xs) x)
 
 -- joining is such an operation
 pub joining : {W : Type 0} {m : Meaning W} → Lawful m → Unital m.free m.join

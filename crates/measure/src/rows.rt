@@ -22,22 +22,16 @@ pub fn better_of_two<M: Measure>(a: M, b: M) -> M
 pub fn join_all<M: Measure>(weights: &[M]) -> M
     ensures { result ≡ joined M.Measure.meaning weights.now }
 {
-    let mut sum = M::free();
-    for w in weights {
-        sum = sum.join(*w);
-    }
-    sum
+    weights.iter().fold(M::free(), |sum, w| sum.join(*w))
 }
 
 // The best of some weights.
 pub fn best_of<M: Measure>(weights: &[M]) -> M
     ensures { result ≡ best M.Measure.meaning weights.now }
 {
-    let mut sum = M::no_way();
-    for w in weights {
-        sum = better_of_two(sum, *w);
-    }
-    sum
+    weights
+        .iter()
+        .fold(M::no_way(), |best, w| better_of_two(best, *w))
 }
 
 // Every measure keeps the laws.

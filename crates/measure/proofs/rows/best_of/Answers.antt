@@ -1,12 +1,13 @@
-use Rattle.std.proofs.Common.{ap, ◌∙◌, arith, take_all, rules}
+use Rattle.std.proofs.Common.{◌≡◌, subst, rules}
+use Rattle.std.proofs.lemmas.Fn.{fold_over, slice_gives, fronts}
 use Rattle.measure.specs.Meaning.{best}
-use Rattle.measure.proofs.Totals.{bettering, total_more}
+use Rattle.measure.proofs.Totals.{bettering, total_push}
 use Rattle.measure.proofs.rows.best_of.Goals as goal
 
-pub loop-w-preserved : goal.loop-w-preserved
-loop-w-preserved g c =
-    let more = rw c.loop-w.invariant.1 at c.better_of_two-sum.ensures in
-    (omega arith, more ∙ total_more (bettering g.met.M.Measure.lawful) c.args.weights.now c.loop-w.w-index _ c.loop-w-test.true (search rules))
-
 pub returns : goal.returns
-returns g c = c.loop-w.invariant.1 ∙ ap (best g.M.Measure.meaning) (take_all _ _ c.loop-w-test.false)
+returns g c =
+    let m = g.M.Measure.meaning in
+    subst (λ ws. c.fold.result ≡ best m ws) c.iter.ensures.rest
+    (fold_over fronts (λ w. w.now) _ (λ ws sum. sum ≡ best m ws) _
+    (λ ws a w b f' j k. let more = total_push (bettering g.met.M.Measure.lawful) ws w.now in search rules)
+    _ _ _ _ (slice_gives c.iter.result) c.no_way.ensures c.fold.ensures.ran)

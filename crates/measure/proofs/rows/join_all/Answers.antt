@@ -1,12 +1,13 @@
-use Rattle.std.proofs.Common.{ap, ◌∙◌, arith, take_all, rules}
+use Rattle.std.proofs.Common.{◌≡◌, subst, rules}
+use Rattle.std.proofs.lemmas.Fn.{fold_over, slice_gives, fronts}
 use Rattle.measure.specs.Meaning.{joined}
-use Rattle.measure.proofs.Totals.{joining, total_more}
+use Rattle.measure.proofs.Totals.{joining, total_push}
 use Rattle.measure.proofs.rows.join_all.Goals as goal
 
-pub loop-w-preserved : goal.loop-w-preserved
-loop-w-preserved g c =
-    let more = rw c.loop-w.invariant.1 at c.join-sum.ensures in
-    (omega arith, more ∙ total_more (joining g.met.M.Measure.lawful) c.args.weights.now c.loop-w.w-index _ c.loop-w-test.true (search rules))
-
 pub returns : goal.returns
-returns g c = c.loop-w.invariant.1 ∙ ap (joined g.M.Measure.meaning) (take_all _ _ c.loop-w-test.false)
+returns g c =
+    let m = g.M.Measure.meaning in
+    subst (λ ws. c.fold.result ≡ joined m ws) c.iter.ensures.rest
+    (fold_over fronts (λ w. w.now) _ (λ ws sum. sum ≡ joined m ws) _
+    (λ ws a w b f' j k. let more = total_push (joining g.met.M.Measure.lawful) ws w.now in search rules)
+    _ _ _ _ (slice_gives c.iter.result) c.free.ensures c.fold.ensures.ran)

@@ -5,6 +5,4 @@ use Rattle.measure.specs.TripLaws.{trip_same}
 use Rattle.measure.proofs.trip.Trip.new.Goals as goal
 
 pub returns : goal.returns
-returns c =
-    let full = c.else-ticks-eq4294967295.either in
-    sym (read_passes _ _ _ (grind (arith, nat_tests)) (trip_same _ _ (omega arith) (grind (arith, nat_tests))))
+returns c = sym (read_passes _ _ _ (grind (arith, nat_tests)) (trip_same _ _ (omega arith) (grind (arith, nat_tests))))
