@@ -4,7 +4,7 @@ ghost use Rattle.std.specs.Option.{option_map};
 ghost use Rattle.model.specs.Small.{ends_of_row, ends_between};
 
 // Two different stations, the lower first. It never lies in a table: records hold plain numbers, from which a check makes it.
-#[derive(Clone, Copy)]
+#[derive(Clone, Copy, PartialEq, Eq, PartialOrd, Ord, Debug)]
 pub struct Ends {
     low: usize,
     high: usize,
@@ -26,25 +26,18 @@ impl Ends {
     pub fn between(u: usize, v: usize) -> Option<Ends>
         ensures { option_map (λ e. (e.low, e.high)) result ≡ ends_between u v }
     {
-        if u == v {
-            return None;
-        }
-        let low = u.min(v);
-        let high = u.max(v);
-        Some(Ends { low, high })
+        Ends::of_row(u.min(v), u.max(v))
     }
 
     pub fn low(self) -> usize
         ensures { result ≡ self.low }
     {
-        let first = self.low;
-        first
+        self.low
     }
 
     pub fn high(self) -> usize
         ensures { result ≡ self.high }
     {
-        let second = self.high;
-        second
+        self.high
     }
 }

@@ -9,7 +9,7 @@ use crate::records::Section;
 pub fn has_ends<M: Copy>(section: &Section<M>, low: usize, high: usize) -> bool
     ensures { result ≡ same_ends section.now.low section.now.high low high }
 {
-    section.low == low && section.high == high
+    (section.low, section.high) == (low, high)
 }
 
 // What the section with these ends weighs, if there is one.
@@ -18,10 +18,8 @@ pub fn weight_between<M: Copy>(sections: &[Section<M>], ends: Ends) -> Option<M>
 {
     let low = ends.low();
     let high = ends.high();
-    for section in sections {
-        if has_ends(section, low, high) {
-            return Some(section.weight);
-        }
-    }
-    None
+    sections
+        .iter()
+        .find(|section| has_ends(section, low, high))
+        .map(|section| section.weight)
 }

@@ -3,52 +3,35 @@
 ghost use Rattle.std.specs.Prelude.{◌≡◌};
 ghost use Rattle.model.specs.Refusals.{number_of};
 
+use std::error::Error;
 use std::fmt;
 
-#[derive(Clone, Copy, Debug)]
+#[derive(Clone, Copy, PartialEq, Eq, Debug)]
 pub enum Refusal {
-    Unfit,
-    NoStation,
-    EqualEnds,
-    UnfitWeight,
-    NoSection,
-    SectionsFull,
-    Stale,
-    BadSettings,
-    LegsFull,
-    LabelsFull,
-    FileLength,
-    CheckSum,
-    BlockNumber,
-    BlockKind,
-    RecordCount,
-    UnusedByte,
-    BadRecord,
+    Unfit = 1,
+    NoStation = 2,
+    EqualEnds = 3,
+    UnfitWeight = 4,
+    NoSection = 5,
+    SectionsFull = 6,
+    Stale = 7,
+    BadSettings = 8,
+    LegsFull = 9,
+    LabelsFull = 10,
+    FileLength = 11,
+    CheckSum = 12,
+    BlockNumber = 13,
+    BlockKind = 14,
+    RecordCount = 15,
+    UnusedByte = 16,
+    BadRecord = 17,
 }
 
 impl Refusal {
     pub fn number(self) -> u8
         ensures { result ≡ number_of self }
     {
-        match self {
-            Refusal::Unfit => 1,
-            Refusal::NoStation => 2,
-            Refusal::EqualEnds => 3,
-            Refusal::UnfitWeight => 4,
-            Refusal::NoSection => 5,
-            Refusal::SectionsFull => 6,
-            Refusal::Stale => 7,
-            Refusal::BadSettings => 8,
-            Refusal::LegsFull => 9,
-            Refusal::LabelsFull => 10,
-            Refusal::FileLength => 11,
-            Refusal::CheckSum => 12,
-            Refusal::BlockNumber => 13,
-            Refusal::BlockKind => 14,
-            Refusal::RecordCount => 15,
-            Refusal::UnusedByte => 16,
-            Refusal::BadRecord => 17,
-        }
+        self as u8
     }
 
     // The cause in words that a planner understands.
@@ -82,3 +65,5 @@ impl fmt::Display for Refusal {
         write!(f, "refused {number}: {sentence}")
     }
 }
+
+impl Error for Refusal {}

@@ -5,7 +5,7 @@ ghost use Rattle.model.specs.Small.{ok_mapped, settings_of};
 use crate::refusal::Refusal;
 
 // A height limit from 1 to 255, and the percentage of its size that a network may keep for the climb to go on.
-#[derive(Clone, Copy)]
+#[derive(Clone, Copy, PartialEq, Eq, Debug)]
 pub struct Settings {
     height: u8,
     threshold: u8,
@@ -17,26 +17,24 @@ impl Settings {
     pub fn new(height: u32, threshold: u32) -> Result<Settings, Refusal>
         ensures { ok_mapped (λ s. (s.height, s.threshold)) result ≡ settings_of height threshold }
     {
-        if height < 1 || 255 < height || threshold < 1 || 100 < threshold {
+        let (Ok(height @ 1..), Ok(threshold @ 1..=100)) = (
+            u8::try_from(height),
+            u8::try_from(threshold),
+        ) else {
             return Err(Refusal::BadSettings);
-        }
-        Ok(Settings {
-            height: height as u8,
-            threshold: threshold as u8,
-        })
+        };
+        Ok(Settings { height, threshold })
     }
 
     pub fn height(self) -> u8
         ensures { result ≡ self.height }
     {
-        let levels = self.height;
-        levels
+        self.height
     }
 
     pub fn threshold(self) -> u8
         ensures { result ≡ self.threshold }
     {
-        let percent = self.threshold;
-        percent
+        self.threshold
     }
 }
