@@ -30,17 +30,18 @@ pub fn place_section<M: Copy>(
     ensures padded { PlacingPadded table.old count (section_of ends.low ends.high weight) result table.new }
     ensures whole { ascends (take count table.old) ≡ true → Placing table.old count (section_of ends.low ends.high weight) result table.new }
 {
-    let (place, there) = locate(table, count, ends);
     let section = section_of(ends, weight);
-    if there {
-        table[place] = section;
-        return Some(count);
+    match locate(table, count, ends) {
+        Ok(place) => {
+            table[place] = section;
+            Some(count)
+        }
+        Err(_) if count == table.len() => None,
+        Err(place) => {
+            insert(table, count, place, section);
+            Some(count + 1)
+        }
     }
-    if count == table.len() {
-        return None;
-    }
-    insert(table, count, place, section);
-    Some(count + 1)
 }
 
 // Removes the section with these ends from the first of the table, if it is there, and says how many there are then.
@@ -54,10 +55,9 @@ pub fn remove_section<M: Copy>(
     ensures padded { RemovingPadded table.old count ends.low ends.high blank result table.new }
     ensures whole { ascends (take count table.old) ≡ true → Removing table.old count ends.low ends.high blank result table.new }
 {
-    let (place, there) = locate(table, count, ends);
-    if !there {
+    let Ok(place) = locate(table, count, ends) else {
         return count;
-    }
+    };
     remove(table, count, place, blank);
     count - 1
 }

@@ -6,35 +6,35 @@ use Rattle.tables.proofs.Amendments.{placing_new, placing_there}
 use Rattle.tables.proofs.Padding.{placing_padded}
 use Rattle.tables.proofs.amending.place_section.Goals as goal
 
-pub returns-then-there : goal.returns-then-there
-returns-then-there g c =
+pub returns-in-Ok : goal.returns-in-Ok
+returns-in-Ok g c =
     let xs = c.args.table.now in
     let n = c.args.count in
-    let place = c.locate-place.result.0 in
+    let place = c.in-Ok.place in
     let x = section_of c.args.ends.low c.args.ends.high c.args.weight in
     let after = set xs place c.section_of-section.result in
     let whole : (ascends (take n xs) ≡ true → Placing xs n x (Some n) after) = λ up.
-    let (count, written) = placing_there xs n x place c.requires (c.locate-place.ensures.first up) (sym c.locate-place.ensures.there ∙ c.if-there.true) in
+    let (count, written) = placing_there xs n x place c.requires (c.in-Ok.ensures.first up) (sym c.in-Ok.ensures.there) in
     (count, ap (λ y. set xs place y) c.section_of-section.ensures ∙ written) in
     record { padded = placing_padded xs n x (Some n) after whole; whole = whole }
 
-pub returns-then-count-table : goal.returns-then-count-table
-returns-then-count-table g c =
+pub returns-in-Err : goal.returns-in-Err
+returns-in-Err g c =
     let xs = c.args.table.now in
     let n = c.args.count in
     let x = section_of c.args.ends.low c.args.ends.high c.args.weight in
     let whole : (ascends (take n xs) ≡ true → Placing xs n x None xs) = λ up.
-    (c.if-count-table.true, sym (c.locate-place.ensures.known up) ∙ c.if-there.false, refl) in
+    (c.if-count-table.true, sym (c.in-Err.ensures.known up), refl) in
     record { padded = placing_padded xs n x None xs whole; whole = whole }
 
-pub returns : goal.returns
-returns g c =
+pub returns-in-Err-2 : goal.returns-in-Err-2
+returns-in-Err-2 g c =
     let xs = c.args.table.now in
     let n = c.args.count in
-    let place = c.locate-place.result.0 in
+    let place = c.in-Err.field-0 in
     let x = section_of c.args.ends.low c.args.ends.high c.args.weight in
     let after = c.insert.new.table in
     let whole : (ascends (take n xs) ≡ true → Placing xs n x (Some (n + 1)) after) = λ up.
-    let (count, shifted) = placing_new xs n x place (omega arith) (c.locate-place.ensures.first up) (sym c.locate-place.ensures.there ∙ c.if-there.false) in
+    let (count, shifted) = placing_new xs n x place (omega arith) (c.in-Err.ensures.first up) (sym c.in-Err.ensures.there) in
     (count, c.insert.ensures ∙ ap (λ y. insert (take n xs) place y ++ drop (n + 1) xs) c.section_of-section.ensures ∙ shifted) in
     record { padded = placing_padded xs n x (Some (n + 1)) after whole; whole = whole }
