@@ -31,14 +31,14 @@ pub fn place_section<M: Copy>(
     ensures whole { ascends (take count table.old) ≡ true → Placing table.old count (section_of ends.low ends.high weight) result table.new }
 {
     let section = section_of(ends, weight);
-    match locate(table, count, ends) {
+    match locate(&table[..count], ends) {
         Ok(place) => {
             table[place] = section;
             Some(count)
         }
         Err(_) if count == table.len() => None,
         Err(place) => {
-            insert(table, count, place, section);
+            insert(&mut table[..=count], place, section);
             Some(count + 1)
         }
     }
@@ -55,9 +55,9 @@ pub fn remove_section<M: Copy>(
     ensures padded { RemovingPadded table.old count ends.low ends.high blank result table.new }
     ensures whole { ascends (take count table.old) ≡ true → Removing table.old count ends.low ends.high blank result table.new }
 {
-    let Ok(place) = locate(table, count, ends) else {
+    let Ok(place) = locate(&table[..count], ends) else {
         return count;
     };
-    remove(table, count, place, blank);
+    remove(&mut table[..count], place, blank);
     count - 1
 }

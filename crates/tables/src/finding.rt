@@ -37,15 +37,13 @@ pub fn has_at<M: Copy>(sections: &[Section<M>], place: usize, ends: Ends) -> boo
     has_ends(section, low, high)
 }
 
-// Where these ends stand among the first sections of a table, or else where they would stand.
-pub fn locate<M: Copy>(table: &[Section<M>], count: usize, ends: Ends) -> Result<usize, usize>
-    requires { count ≤ length table.now }
-    ensures within { IsSearchInRange result count }
-    ensures first { ascends (take count table.now) ≡ true → place_in result ≡ place_of ends.low ends.high (take count table.now) }
-    ensures there { is_ok result ≡ has_at (place_in result) ends.low ends.high (take count table.now) }
-    ensures known { ascends (take count table.now) ≡ true → is_ok result ≡ is_some (weight_of ends.low ends.high (take count table.now)) }
+// Where these ends stand among the sections, or else where they would stand.
+pub fn locate<M: Copy>(sections: &[Section<M>], ends: Ends) -> Result<usize, usize>
+    ensures within { IsSearchInRange result (length sections.now) }
+    ensures first { ascends sections.now ≡ true → place_in result ≡ place_of ends.low ends.high sections.now }
+    ensures there { is_ok result ≡ has_at (place_in result) ends.low ends.high sections.now }
+    ensures known { ascends sections.now ≡ true → is_ok result ≡ is_some (weight_of ends.low ends.high sections.now) }
 {
-    let sections = &table[..count];
     let place = find(sections, ends);
     if has_at(sections, place, ends) {
         Ok(place)

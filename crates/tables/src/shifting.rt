@@ -1,23 +1,23 @@
-// Making and closing a gap in a table.
-ghost use Rattle.std.specs.Prelude.{◌≡◌, ◌+◌, ◌<◌, ◌≤◌, ◌∷◌, ◌++◌, length, take, drop};
+// Making and closing a gap among records.
+ghost use Rattle.std.specs.Prelude.{◌≡◌, ◌-◌, ◌<◌, [], ◌∷◌, ◌++◌, length, take};
 ghost use Rattle.std.specs.List.{insert, remove};
 
-// Puts a record at a place among those in use, and moves the later ones up by one.
-pub fn insert<T: Copy>(table: &mut [T], count: usize, place: usize, item: T)
-    requires used { place ≤ count }
-    requires room { count < length table.old }
-    ensures { table.new ≡ insert (take count table.old) place item ++ drop (count + 1) table.old }
+// Puts a record at a place, moves the later ones up by one, and lets the last one go.
+pub fn insert<T: Copy>(records: &mut [T], place: usize, item: T)
+    requires { place < length records.old }
+    ensures { records.new ≡ insert (take (length records.old - 1) records.old) place item }
 {
-    table.copy_within(place..count, place + 1);
-    table[place] = item;
+    let last = records.len() - 1;
+    records.copy_within(place..last, place + 1);
+    records[place] = item;
 }
 
-// Takes the record at a place away from those in use, moves the later ones down by one, and leaves the blank behind them.
-pub fn remove<T: Copy>(table: &mut [T], count: usize, place: usize, blank: T)
-    requires used { place < count }
-    requires within { count ≤ length table.old }
-    ensures { table.new ≡ remove (take count table.old) place ++ blank ∷ drop count table.old }
+// Takes the record at a place away, moves the later ones down by one, and leaves the blank behind them.
+pub fn remove<T: Copy>(records: &mut [T], place: usize, blank: T)
+    requires { place < length records.old }
+    ensures { records.new ≡ remove records.old place ++ blank ∷ [] }
 {
-    table.copy_within(place + 1..count, place);
-    table[count - 1] = blank;
+    let last = records.len() - 1;
+    records.copy_within(place + 1.., place);
+    records[last] = blank;
 }

@@ -1,4 +1,6 @@
-use Rattle.std.proofs.Common.{◌≡◌, ◌-◌, true, take, sym, ◌∙◌}
+use Rattle.std.proofs.Common.{◌≡◌, ◌-◌, true, [], ◌∷◌, ◌++◌, take, drop, sym, ap, ◌∙◌}
+use Rattle.std.proofs.lemmas.List.{append_assoc}
+use Rattle.std.specs.List.{remove}
 use Rattle.model.specs.Sections.{ascends}
 use Rattle.tables.specs.Amending.{Removing}
 use Rattle.tables.proofs.Amendments.{removing_none, removing_there}
@@ -23,8 +25,9 @@ returns g c =
     let low = c.args.ends.low in
     let high = c.args.ends.high in
     let blank = c.args.blank in
-    let after = c.remove.new.table in
+    let place = c.in-Ok.place in
+    let after = c.remove.new.records ++ drop n xs in
     let whole : (ascends (take n xs) ≡ true → Removing xs n low high blank (n - 1) after) = λ up.
-    let (count, shifted) = removing_there xs n low high blank c.in-Ok.place c.requires (c.in-Ok.ensures.first up) (sym c.in-Ok.ensures.there) in
-    (count, c.remove.ensures ∙ shifted) in
+    let (count, shifted) = removing_there xs n low high blank place c.requires (c.in-Ok.ensures.first up) (sym c.in-Ok.ensures.there) in
+    (count, ap (λ ss. ss ++ drop n xs) c.remove.ensures ∙ append_assoc (remove (take n xs) place) (blank ∷ []) (drop n xs) ∙ shifted) in
     record { padded = removing_padded xs n low high blank (n - 1) after c.requires whole; whole = whole }
