@@ -14,7 +14,7 @@ impl Numbers for Ticks {
     ghost readable = { λ k. nat_le 1 k && nat_le k 1000000 };
 
     fn is_readable(number: u64) -> bool {
-        1 <= number && number <= 1000000
+        (1..=1_000_000).contains(&number)
     }
 }
 
@@ -24,19 +24,20 @@ const SECTION: Row = Row {
     number: 7,
 };
 
-// Refusal 0 and the total of an accepted file, or the refusal's number, the block and the byte.
-fn judged(file: &[u8]) -> (u8, usize, usize) {
-    match check_file::<Ticks>(file, 100, 1) {
-        Ok(total) => (0, total, 0),
-        Err(fault) => (fault.refusal().number(), fault.block(), fault.byte()),
-    }
+// The total of an accepted file, or the refusal's number, the block and the byte.
+fn judged(file: &[u8]) -> Result<usize, (u8, usize, usize)> {
+    check_file::<Ticks>(file, 100, 1).map_err(|fault| (
+        fault.refusal().number(),
+        fault.block(),
+        fault.byte(),
+    ))
 }
 
 // Sections from station 0 to stations 1, 2, 3 and so on.
 fn star() -> [Row; 42] {
     let mut rows = [SECTION; 42];
-    for i in 0..42 {
-        rows[i].high = i as u16 + 1;
+    for (row, high) in rows.iter_mut().zip(1..) {
+        row.high = high;
     }
     rows
 }
@@ -57,9 +58,9 @@ fn a_block_holds_41(rt: HostRuntime) -> Result<(), Fail> {
     let rows = star();
     let mut file = [9u8; 2048];
     assert_eq!(rt; write_file(&mut file, 100, 1, &rows[0..41])?, 1024);
-    assert_eq!(rt; judged(&file[0..1024]), (0, 41, 0));
+    assert_eq!(rt; judged(&file[0..1024]), Ok(41));
     assert_eq!(rt; write_file(&mut file, 100, 1, &rows)?, 1536);
-    assert_eq!(rt; judged(&file[0..1536]), (0, 42, 0));
+    assert_eq!(rt; judged(&file[0..1536]), Ok(42));
     let row = row_at(&file, 41);
     assert_eq!(rt; (row.low, row.high, row.number), (0, 42, 7));
     assert_eq!(rt; file[1536], 9);
@@ -71,58 +72,58 @@ fn lengths(rt: HostRuntime) {
     let mut file = [0u8; 1024];
     assert!(rt; write_file(&mut file[0..1000], 100, 1, &[SECTION]).is_err());
     assert!(rt; write_file(&mut file[0..512], 100, 1, &[SECTION]).is_err());
-    assert_eq!(rt; judged(&file[0..0]), (11, 0, 0));
-    assert_eq!(rt; judged(&file[0..513]), (11, 0, 0));
+    assert_eq!(rt; judged(&file[0..0]), Err((11, 0, 0)));
+    assert_eq!(rt; judged(&file[0..513]), Err((11, 0, 0)));
 }
 
 // Puts the check sums right: the second adds up what the first is after each word.
-fn reseal(block: &mut [u8]) {
-    if block.len() == 512 {
-        let mut first: u32 = 0;
-        let mut second: u32 = 0;
-        for j in 0..254 {
-            let word = u16::from_le_bytes([block[2 * j], block[2 * j + 1]]);
-            first = first.wrapping_add(u32::from(word)) % 65535;
-            second = second.wrapping_add(first) % 65535;
-        }
-        block[508] = (first % 256) as u8;
-        block[509] = (first / 256 % 256) as u8;
-        block[510] = (second % 256) as u8;
-        block[511] = (second / 256 % 256) as u8;
+fn reseal(block: &mut [u8; 512]) {
+    let mut first: u32 = 0;
+    let mut second: u32 = 0;
+    for word in block[..508].chunks_exact(2) {
+        let word = u16::from_le_bytes([word[0], word[1]]);
+        first = first.wrapping_add(u32::from(word)) % 65535;
+        second = second.wrapping_add(first) % 65535;
     }
+    block[508] = (first % 256) as u8;
+    block[509] = (first / 256 % 256) as u8;
+    block[510] = (second % 256) as u8;
+    block[511] = (second / 256 % 256) as u8;
 }
 
 // What a file of one section is called after a byte of it became another, under right check sums.
-fn spoiled(at: usize, byte: u8) -> Result<(u8, usize, usize), Fail> {
-    let mut file = [0u8; 1024];
-    write_file(&mut file, 100, 1, &[SECTION])?;
-    if at < 1024 {
-        file[at] = byte;
+fn spoiled(at: usize, byte: u8) -> Result<Result<usize, (u8, usize, usize)>, Fail> {
+    let mut blocks = [[0u8; 512]; 2];
+    let file = blocks.as_flattened_mut();
+    write_file(file, 100, 1, &[SECTION])?;
+    if let Some(spot) = file.get_mut(at) {
+        *spot = byte;
     }
-    reseal(&mut file[0..512]);
-    reseal(&mut file[512..1024]);
-    Ok(judged(&file))
+    for block in blocks.iter_mut() {
+        reseal(block);
+    }
+    Ok(judged(blocks.as_flattened()))
 }
 
 // A byte that is changed, what it becomes, and what the file is then called.
-const DAMAGE: [(usize, u8, (u8, usize, usize)); 17] = [
-    (0, 0, (0, 1, 0)),
-    (0, 1, (13, 0, 0)),
-    (6, 2, (14, 0, 6)),
-    (7, 2, (14, 0, 7)),
-    (4, 1, (15, 0, 4)),
-    (8, 99, (15, 0, 8)),
-    (10, 42, (15, 0, 10)),
-    (14, 1, (16, 0, 14)),
-    (507, 1, (16, 0, 507)),
-    (512, 2, (13, 1, 0)),
-    (518, 1, (14, 1, 6)),
-    (519, 2, (14, 1, 7)),
-    (516, 2, (15, 1, 4)),
-    (532, 1, (16, 1, 20)),
-    (520, 1, (17, 1, 8)),
-    (522, 100, (17, 1, 8)),
-    (524, 0, (17, 1, 8)),
+const DAMAGE: [(usize, u8, Result<usize, (u8, usize, usize)>); 17] = [
+    (0, 0, Ok(1)),
+    (0, 1, Err((13, 0, 0))),
+    (6, 2, Err((14, 0, 6))),
+    (7, 2, Err((14, 0, 7))),
+    (4, 1, Err((15, 0, 4))),
+    (8, 99, Err((15, 0, 8))),
+    (10, 42, Err((15, 0, 10))),
+    (14, 1, Err((16, 0, 14))),
+    (507, 1, Err((16, 0, 507))),
+    (512, 2, Err((13, 1, 0))),
+    (518, 1, Err((14, 1, 6))),
+    (519, 2, Err((14, 1, 7))),
+    (516, 2, Err((15, 1, 4))),
+    (532, 1, Err((16, 1, 20))),
+    (520, 1, Err((17, 1, 8))),
+    (522, 100, Err((17, 1, 8))),
+    (524, 0, Err((17, 1, 8))),
 ];
 
 #[test]
@@ -138,7 +139,7 @@ fn wrong_check_sums(rt: HostRuntime) -> Result<(), Fail> {
     let mut file = [0u8; 1024];
     write_file(&mut file, 100, 1, &[SECTION])?;
     file[600] = 1;
-    assert_eq!(rt; judged(&file), (12, 1, 508));
+    assert_eq!(rt; judged(&file), Err((12, 1, 508)));
     Ok(())
 }
 
@@ -146,7 +147,7 @@ fn wrong_check_sums(rt: HostRuntime) -> Result<(), Fail> {
 fn trailing_blocks(rt: HostRuntime) -> Result<(), Fail> {
     let mut file = [0u8; 1536];
     write_file(&mut file, 100, 1, &[SECTION])?;
-    assert_eq!(rt; judged(&file), (15, 0, 10));
+    assert_eq!(rt; judged(&file), Err((15, 0, 10)));
     Ok(())
 }
 
@@ -154,10 +155,10 @@ fn trailing_blocks(rt: HostRuntime) -> Result<(), Fail> {
 #[test]
 fn check_sum_of_all_ones(rt: HostRuntime) {
     let mut file = [0u8; 512];
-    assert_eq!(rt; judged(&file), (14, 0, 6));
+    assert_eq!(rt; judged(&file), Err((14, 0, 6)));
     file[508] = 255;
     file[509] = 255;
-    assert_eq!(rt; judged(&file), (12, 0, 508));
+    assert_eq!(rt; judged(&file), Err((12, 0, 508)));
 }
 
 #[test]
@@ -168,15 +169,15 @@ fn bad_records(rt: HostRuntime) -> Result<(), Fail> {
     write_file(&mut file, 100, 1, &rows)?;
     assert_eq!(rt;
         judged(&file),
-        (17, 2, 8),
+        Err((17, 2, 8)),
         "the same section in the next block"
     );
     rows[1] = rows[0];
     write_file(&mut file, 100, 1, &rows)?;
-    assert_eq!(rt; judged(&file), (17, 1, 20), "the same section twice");
+    assert_eq!(rt; judged(&file), Err((17, 1, 20)), "the same section twice");
     rows[0].high = 0;
     write_file(&mut file, 100, 1, &rows)?;
-    assert_eq!(rt; judged(&file), (17, 1, 8), "equal ends");
+    assert_eq!(rt; judged(&file), Err((17, 1, 8)), "equal ends");
     Ok(())
 }
 

@@ -4,21 +4,19 @@ use model::refusal::Refusal;
 use model::settings::Settings;
 use std::test::Fail;
 
-fn number_of_refusal(height: u32, threshold: u32) -> u8 {
-    match Settings::new(height, threshold) {
-        Ok(_) => 0,
-        Err(refusal) => refusal.number(),
-    }
+// The number with which settings are refused, if they are.
+fn number_of_refusal(height: u32, threshold: u32) -> Option<u8> {
+    Settings::new(height, threshold).err().map(Refusal::number)
 }
 
 #[test]
 fn settings_at_their_limits(rt: HostRuntime) {
-    assert!(rt; number_of_refusal(0, 1) == 8);
-    assert!(rt; number_of_refusal(1, 1) == 0);
-    assert!(rt; number_of_refusal(255, 100) == 0);
-    assert!(rt; number_of_refusal(256, 100) == 8);
-    assert!(rt; number_of_refusal(1, 0) == 8);
-    assert!(rt; number_of_refusal(1, 101) == 8);
+    assert!(rt; number_of_refusal(0, 1) == Some(8));
+    assert!(rt; number_of_refusal(1, 1).is_none());
+    assert!(rt; number_of_refusal(255, 100).is_none());
+    assert!(rt; number_of_refusal(256, 100) == Some(8));
+    assert!(rt; number_of_refusal(1, 0) == Some(8));
+    assert!(rt; number_of_refusal(1, 101) == Some(8));
 }
 
 #[test]

@@ -4,7 +4,7 @@ ghost use Rattle.trials.specs.ReachLaws.{reach_lawful};
 
 use measure::Measure;
 
-#[derive(Clone, Copy, PartialEq, Eq, Debug)]
+#[derive(Clone, Copy, PartialEq, Eq, PartialOrd, Ord, Debug)]
 pub struct Reach {
     pub passes: bool,
 }
@@ -15,13 +15,11 @@ impl Measure for Reach {
     ghost lawful = { reach_lawful };
 
     fn no_worse(self, other: Reach) -> bool {
-        self.passes | !other.passes
+        other <= self
     }
 
     fn join(self, other: Reach) -> Reach {
-        Reach {
-            passes: self.passes & other.passes,
-        }
+        self.min(other)
     }
 
     fn free() -> Reach {
@@ -41,10 +39,7 @@ impl Measure for Reach {
     }
 
     fn from_number(number: u64) -> Option<Reach> {
-        if number == 1 {
-            return Some(Reach { passes: true });
-        }
-        None
+        (number == 1).then_some(Reach::free())
     }
 
     fn code() -> u8 {
