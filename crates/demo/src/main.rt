@@ -42,31 +42,27 @@ impl Figured for Trip {
     }
 }
 
-// The ends of six sections.
-const ENDS: [(usize, usize); 6] = [(0, 1), (1, 2), (1, 4), (2, 3), (3, 4), (4, 5)];
-
-// What they take in ticks.
-const FIGURES: [u32; 6] = [2, 2, 8, 1, 4, 1];
+// Six sections: their two ends, and what they take in ticks.
+const SECTIONS: [(usize, usize, u32); 6] = [
+    (0, 1, 2),
+    (1, 2, 2),
+    (1, 4, 8),
+    (2, 3, 1),
+    (3, 4, 4),
+    (4, 5, 1),
+];
 
 // Two ways from 0 to 5, and one that no section allows, each after its first station.
-const DIRECT: [usize; 3] = [1, 4, 5];
-
-const ROUND: [usize; 5] = [1, 2, 3, 4, 5];
-
-const BROKEN: [usize; 2] = [2, 3];
+const WALKS: [&[usize]; 3] = [&[1, 4, 5], &[1, 2, 3, 4, 5], &[2, 3]];
 
 // The six sections under a measure.
 fn network<M: Figured>(rt: &HostRuntime) -> anyhow::Result<Vec<Section<M>>> {
     let mut sections = Vec::new(rt.alloc());
-    for ((low, high), figure) in ENDS.iter().zip(FIGURES.iter()) {
-        let Some(weight) = M::of_figure(*figure) else {
+    for (low, high, figure) in SECTIONS {
+        let Some(weight) = M::of_figure(figure) else {
             return Err(anyhow!("a figure is no weight"));
         };
-        sections.push(Section {
-            low: *low,
-            high: *high,
-            weight,
-        })?;
+        sections.push(Section { low, high, weight })?;
     }
     Ok(sections)
 }
@@ -90,9 +86,9 @@ fn compare<M: Figured>(rt: &HostRuntime, name: &str) -> anyhow::Result<()> {
     println!(rt; "{name}")?;
     let sections = network::<M>(rt)?;
     let mut totals = Vec::new(rt.alloc());
-    totals.push(price(rt, &sections, &DIRECT)?)?;
-    totals.push(price(rt, &sections, &ROUND)?)?;
-    totals.push(price(rt, &sections, &BROKEN)?)?;
+    for rest in WALKS {
+        totals.push(price(rt, &sections, rest)?)?;
+    }
     let best = best_of(&totals);
     println!(rt; "  best of the three: {best}")?;
     Ok(())

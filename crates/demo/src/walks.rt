@@ -12,13 +12,9 @@ use std::alloc::{AllocError, Global};
 pub fn step<M: Measure>(sections: &[Section<M>], u: usize, v: usize) -> M
     ensures { result ≡ step_weight M.Measure.meaning sections.now u v }
 {
-    let Some(ends) = Ends::between(u, v) else {
-        return M::no_way();
-    };
-    match weight_between(sections, ends) {
-        Some(weight) => weight,
-        None => M::no_way(),
-    }
+    Ends::between(u, v)
+        .and_then(|ends| weight_between(sections, ends))
+        .unwrap_or(M::no_way())
 }
 
 // What each step of a walk weighs that goes from one station over those that follow.
