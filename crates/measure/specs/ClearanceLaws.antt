@@ -4,7 +4,8 @@ use Rattle.std.proofs.Common.{ap, ◌∙◌, arith}
 use mathlib.Core.HLevel.{is_prop→PathP}
 use Rattle.std.proofs.Math.Bridge.{le_prop}
 use Rattle.std.proofs.lemmas.Bool.Decides.{nat_tests}
-use Rattle.measure.specs.Readings.{read_passed, read_passes}
+use Rattle.std.proofs.lemmas.Option.{cond_some}
+use Rattle.measure.specs.Readings.{read_passes}
 use Rattle.measure.specs.Meaning.{Lawful, AllFit, Carries, joined}
 use Rattle.measure.specs.Clearance.{clearance_top, clearance_of, fit_clearance, clearance_meaning}
 use Rattle.measure.specs.declared.clearance.Clearance.{Clearance}
@@ -16,7 +17,7 @@ clearance_same a b e = λ i. record { value = e i; ok = is_prop→PathP (λ j. e
 -- a number that reads as clearance is that much clearance, and fit
 clearance_read : (k : ℕ) (w : Clearance) → clearance_meaning.reading k ≡ Some w → (fit_clearance w.value ≡ true) × (w.value ≡ k)
 clearance_read k w e =
-    let (passed, is) = read_passed (fit_clearance k) (clearance_of k) w e in
+    let (passed, is) = cond_some (fit_clearance k) (clearance_of k) w e in
     let same : w.value ≡ k = let stopped = ap (λ (x : Clearance). x.value) is in grind (arith, nat_tests) in
     (ap fit_clearance same ∙ passed, same)
 

@@ -4,7 +4,8 @@ use Rattle.std.proofs.Common.{ap, ◌∙◌, arith}
 use mathlib.Core.HLevel.{is_prop→PathP}
 use Rattle.std.proofs.Math.Bridge.{le_prop}
 use Rattle.std.proofs.lemmas.Bool.Decides.{nat_tests}
-use Rattle.measure.specs.Readings.{read_passed, read_passes}
+use Rattle.std.proofs.lemmas.Option.{cond_some}
+use Rattle.measure.specs.Readings.{read_passes}
 use Rattle.measure.specs.Meaning.{Lawful, AllFit, Carries, joined}
 use Rattle.measure.specs.Ticks.{ticks_top, ticks_of, fit_ticks, ticks_meaning}
 use Rattle.measure.specs.declared.ticks.Ticks.{Ticks}
@@ -16,7 +17,7 @@ ticks_same a b e = λ i. record { value = e i; ok = is_prop→PathP (λ j. e j �
 -- a number that reads as ticks is that many ticks, and fit
 ticks_read : (k : ℕ) (w : Ticks) → ticks_meaning.reading k ≡ Some w → (fit_ticks w.value ≡ true) × (w.value ≡ k)
 ticks_read k w e =
-    let (passed, is) = read_passed (fit_ticks k) (ticks_of k) w e in
+    let (passed, is) = cond_some (fit_ticks k) (ticks_of k) w e in
     let same : w.value ≡ k = let stopped = ap (λ (x : Ticks). x.value) is in grind (arith, nat_tests) in
     (ap fit_ticks same ∙ passed, same)
 

@@ -6,7 +6,8 @@ use Rattle.std.proofs.Math.Bridge.{le_prop}
 use Rattle.std.proofs.Math.Nat.{add-mul-div_left, add-mul-mod_self_left, div-eq_of_lt, mod-add-div}
 use Rattle.std.proofs.lemmas.Bool.{and_parts}
 use Rattle.std.proofs.lemmas.Bool.Decides.{nat_tests}
-use Rattle.measure.specs.Readings.{read_passed, read_passes}
+use Rattle.std.proofs.lemmas.Option.{cond_some}
+use Rattle.measure.specs.Readings.{read_passes}
 use Rattle.measure.specs.Meaning.{Lawful, AllFit, Carries, joined}
 use Rattle.measure.specs.Ticks.{ticks_top, fit_ticks}
 use Rattle.measure.specs.Trip.{transfers_top, transfer_unit, trip_of, trip_meaning}
@@ -47,7 +48,7 @@ unfolding readable
 trip_reads_only k w e =
     let t = k % transfer_unit in
     let x = k / transfer_unit in
-    let (passed, is) = read_passed (readable t x) (trip_of t x) w e in
+    let (passed, is) = cond_some (readable t x) (trip_of t x) w e in
     let ticks : w.ticks ≡ t = let stopped = ap (λ (v : Trip). v.ticks) is in grind (arith, nat_tests) in
     let transfers : w.transfers ≡ x = let stopped = ap (λ (v : Trip). v.transfers) is in grind (arith, nat_tests) in (
       ap fit_ticks ticks ∙ (and_parts (fit_ticks t) (nat_le x transfers_top) passed).0,

@@ -16,10 +16,8 @@ pub fn has_ends<M: Copy>(section: &Section<M>, low: usize, high: usize) -> bool
 pub fn weight_between<M: Copy>(sections: &[Section<M>], ends: Ends) -> Option<M>
     ensures { result ≡ weight_of ends.low ends.high sections.now }
 {
-    let low = ends.low();
-    let high = ends.high();
     sections
         .iter()
-        .find(|section| has_ends(section, low, high))
+        .find(|section| has_ends(section, ends.low(), ends.high()))
         .map(|section| section.weight)
 }

@@ -9,10 +9,10 @@ use model::lookup::has_ends;
 use model::records::Section;
 
 // Whether a section comes before these ends.
-fn comes_before<M: Copy>(section: &Section<M>, low: usize, high: usize) -> bool
-    ensures { result ≡ ends_before section.now.low section.now.high low high }
+fn comes_before<M: Copy>(section: &Section<M>, ends: Ends) -> bool
+    ensures { result ≡ ends_before section.now.low section.now.high ends.low ends.high }
 {
-    (section.low, section.high) < (low, high)
+    (section.low, section.high) < (ends.low(), ends.high())
 }
 
 // The place of the first section that does not come before these ends.
@@ -20,21 +20,17 @@ pub fn find<M: Copy>(sections: &[Section<M>], ends: Ends) -> usize
     ensures within { result ≤ length sections.now }
     ensures first { ascends sections.now ≡ true → result ≡ place_of ends.low ends.high sections.now }
 {
-    let low = ends.low();
-    let high = ends.high();
-    sections.partition_point(|section| comes_before(section, low, high))
+    sections.partition_point(|section| comes_before(section, ends))
 }
 
 // Whether the section at this place has exactly these ends.
 pub fn has_at<M: Copy>(sections: &[Section<M>], place: usize, ends: Ends) -> bool
     ensures { result ≡ has_at place ends.low ends.high sections.now }
 {
-    let low = ends.low();
-    let high = ends.high();
     let Some(section) = sections.get(place) else {
         return false;
     };
-    has_ends(section, low, high)
+    has_ends(section, ends.low(), ends.high())
 }
 
 // Where these ends stand among the sections, or else where they would stand.

@@ -2,7 +2,7 @@
 use Rattle.std.proofs.Common.{◌≡◌, ℕ, zero, suc, ◌-◌, ◌<◌, ◌≤◌, eqb, leb, ◌≢◌, List, [], get_or, Some, None, Option, sym, refl, ap, ◌∙◌, subst, inl, inr, ⊎_elim, arith}
 use mathlib.Core.Path.{fun_ext}
 use Rattle.std.proofs.lemmas.Bool.{cases_eq, cases_lt, cond-false, cond-true, eq-eqb, eqb-true, le-leb, lt-leb}
-use Rattle.measure.specs.Readings.{read_passed}
+use Rattle.std.proofs.lemmas.Option.{cond_some}
 use Rattle.measure.specs.Meaning.{Lawful, Meaning}
 use Rattle.model.specs.Levels.{Grid, level_at, look, next_cell, row, stage_by}
 use Rattle.model.specs.Lists.{choose, tab}
@@ -96,7 +96,7 @@ module _ {W : Type 0} (m : Meaning W) (laws : TravelLaws m) (comm : (a b : W) �
           no_row beyond = descend_past m laws n (suc j) levels (stage_by m n levels G j).rows legs_up j (top_labels m n levels (suc j)) v beyond (get_or_tab_past n _ v [] beyond)
 
   own_is : (v w : ℕ) (d : W) → own_entry m v w ≡ Some d → (v ≡ w) × (d ≡ m.free)
-  own_is v w d e = let (here, free) = read_passed (eqb v w) m.free d e in (eqb-true v w here, sym free)
+  own_is v w d e = let (here, free) = cond_some (eqb v w) m.free d e in (eqb-true v w here, sym free)
 
   below_look : (v w : ℕ) → v < n → level_at levels v < suc j → w < n → look final v w ≡ over_legs m final w (own_entry m v w) (legs_of (stage_by m n levels G j).rows v)
   below_look v w hv below hw = label_look m laws n (suc j) levels (stage_by m n levels G j).rows legs_up j (top_labels m n levels (suc j)) v w hv below (good.low v hv) (omega arith) hw

@@ -2,7 +2,7 @@
 use Rattle.std.proofs.Common.{◌≡◌, ℕ, zero, suc, ◌<◌, ◌≤◌, Bool, true, false, cond, eqb, ◌⊎◌, List, length, set, replicate, Some, None, Option, sym, refl, ap, ◌∙◌, subst, inl, inr, ⊎_elim, arith, length-set}
 use Rattle.std.proofs.lemmas.List.{get_or_past, get_or-replicate, length-replicate}
 use Rattle.std.proofs.lemmas.Bool.{both_ways, cases_Bool, cases_lt, cond-true, eq-eqb, eqb-true}
-use Rattle.measure.specs.Readings.{read_passed}
+use Rattle.std.proofs.lemmas.Option.{cond_some}
 use Rattle.measure.specs.Meaning.{Meaning}
 use Rattle.model.specs.Levels.{grid_of}
 use Rattle.model.specs.Lists.{by_some, choose}
@@ -43,7 +43,7 @@ module _ {W : Type 0} (m : Meaning W) (laws : TravelLaws m) where
         record {
           long = o.long ∙ long;
           seeded = λ x a e.
-              let (here, free) = read_passed (eqb x s) m.free a e in
+              let (here, free) = cond_some (eqb x s) m.free a e in
               subst (NoWorse m _) free (subst (λ y. NoWorse m (key_at m (offered m s m.free (replicate n Free)) y) m.free) (sym (eqb-true x s here)) (o.reached (λ h. absurd (both_ways _ (ap is_settled (idle_everywhere n s)) h))));
           relaxed = λ x u a done e. absurd (never x done);
           in_order = λ x z done undone. absurd (never x done);
@@ -73,7 +73,7 @@ module _ {W : Type 0} (m : Meaning W) (laws : TravelLaws m) where
     -- a key of the search from s alone is the cost of a walk
     walk_of : (x : ℕ) (k : W) → FromSeed m G (only m s) x k → Costing m G x s k
     walk_of x k f =
-        let (here, free) = read_passed (eqb f.start s) m.free f.weight f.is_seed in
+        let (here, free) = cond_some (eqb f.start s) m.free f.weight f.is_seed in
         subst (λ y. Costing m G x y k) (eqb-true f.start s here)
         (f.walk, sym (f.whole ∙ ap (λ w. m.join w (cost m f.walk)) (sym free) ∙ laws.free_left (cost m f.walk)))
 

@@ -3,7 +3,7 @@ use Rattle.std.specs.Prelude.{true, Some, ◌==◌, refl}
 use Rattle.std.proofs.Common.{sym, ap, arith}
 use Rattle.std.proofs.lemmas.Bool.{eqb-true}
 use Rattle.std.proofs.lemmas.Bool.Decides.{nat_tests}
-use Rattle.measure.specs.Readings.{read_passed}
+use Rattle.std.proofs.lemmas.Option.{cond_some}
 use Rattle.measure.specs.Meaning.{Lawful}
 use Rattle.trials.specs.Reach.{reach_of, reach_meaning}
 use Rattle.trials.specs.declared.reach.Reach.{Reach}
@@ -27,7 +27,7 @@ reach_lawful = record {
   number_below = λ w h. omega arith;
   reads_back = λ w h. ap (λ b. Some (reach_of b)) (sym h);
   reads_only = λ k w e.
-      let (passed, is) = read_passed (k == 1) (reach_of true) w e in
+      let (passed, is) = cond_some (k == 1) (reach_of true) w e in
       (sym (ap (λ (v : Reach). v.passes) is), sym (eqb-true k 1 passed));
   code_low = omega arith;
   code_high = omega arith;

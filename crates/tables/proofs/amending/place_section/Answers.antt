@@ -1,4 +1,4 @@
-use Rattle.std.proofs.Common.{◌≡◌, ◌+◌, true, ◌++◌, take, drop, set, Some, None, sym, refl, ap, ◌∙◌, ap₂, arith}
+use Rattle.std.proofs.Common.{◌≡◌, ◌+◌, true, ◌++◌, take, drop, set, Some, sym, ap, ◌∙◌, ap₂, arith}
 use Rattle.std.specs.List.{insert}
 use Rattle.model.specs.Sections.{ascends}
 use Rattle.tables.specs.Amending.{Placing, section_of}
@@ -18,15 +18,6 @@ returns-in-Ok g c =
     let (count, written) = placing_there xs n x place c.requires (c.in-Ok.ensures.first up) (sym c.in-Ok.ensures.there) in
     (count, ap (λ y. set xs place y) c.section_of-section.ensures ∙ written) in
     record { padded = placing_padded xs n x (Some n) after whole; whole = whole }
-
-pub returns-in-Err : goal.returns-in-Err
-returns-in-Err g c =
-    let xs = c.args.table.now in
-    let n = c.args.count in
-    let x = section_of c.args.ends.low c.args.ends.high c.args.weight in
-    let whole : (ascends (take n xs) ≡ true → Placing xs n x None xs) = λ up.
-    (c.if-count-table.true, sym (c.in-Err.ensures.known up), refl) in
-    record { padded = placing_padded xs n x None xs whole; whole = whole }
 
 pub returns-in-Err-2 : goal.returns-in-Err-2
 returns-in-Err-2 g c =

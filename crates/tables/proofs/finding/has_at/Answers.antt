@@ -11,5 +11,5 @@ pub returns : goal.returns
 returns g c =
     let ss = c.args.sections.now in
     c.has_ends.ensures
-    ∙ has_at_read c.args.place c.low-low.result c.high-high.result ss c.in-Some.section.now (grind (arith, nat_tests)) (search rules)
-    ∙ ap₂ (λ low high. has_at c.args.place low high ss) c.low-low.ensures c.high-high.ensures
+    ∙ has_at_read c.args.place c.low.result c.high.result ss c.in-Some.section.now (grind (arith, nat_tests)) (search rules)
+    ∙ ap₂ (λ low high. has_at c.args.place low high ss) c.low.ensures c.high.ensures
