@@ -1,5 +1,5 @@
 // Finding a section in ascending order by its ends.
-ghost use Rattle.std.specs.Prelude.{◌≡◌, ◌≤◌, true, length, take, is_some, is_ok};
+ghost use Rattle.std.specs.Prelude.{◌≡◌, ◌≤◌, true, length, is_some, is_ok};
 ghost use Rattle.std.specs.List.Sorted.{IsSearchInRange};
 ghost use Rattle.model.specs.Sections.{ascends, ends_before, place_of, weight_of};
 ghost use Rattle.tables.specs.Finding.{has_at, place_in};
