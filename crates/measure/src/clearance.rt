@@ -1,4 +1,4 @@
-// Clearance: how wide a load passes.
+// Clearance: how wide a load passes. Order, joining and edges are other than those of ticks, so one type for both would say less.
 ghost use Rattle.std.specs.Prelude.{◌≡◌, ◌≤◌, Some};
 
 use crate::{HouseMeasure, Measure};

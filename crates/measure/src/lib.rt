@@ -41,7 +41,7 @@ pub trait Measure: Copy {
     fn from_number(number: u64) -> Option<Self>
         ensures { result ≡ meaning.reading number };
 
-    // The measure's mark in a file.
+    // The measure's mark in a file: a byte, since any crate may add a measure, and no enum has them all.
     fn code() -> u8
         ensures { result ≡ meaning.code };
 

@@ -1,4 +1,4 @@
-// The blank record of each table.
+// The blank record of each table. No function is generic over them, so a trait would add a bound and say nothing more.
 ghost use Rattle.std.specs.Prelude.{◌≡◌};
 ghost use Rattle.model.specs.Records.{blank_section, blank_station, blank_leg, blank_entry, blank_key};
 

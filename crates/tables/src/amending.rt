@@ -1,4 +1,5 @@
-// Placing a section in a table and removing one, by its ends.
+// Placing a section in a table and removing one, by its ends. The table is fixed memory, lent for the call, and its owner keeps
+// the count: a struct of both would owe a clause for the reference in each method and say nothing more.
 ghost use Rattle.std.specs.Prelude.{◌≡◌, ◌≤◌, true, length, take};
 ghost use Rattle.model.specs.Sections.{ascends};
 ghost use Rattle.tables.specs.Amending.{Placing, PlacingPadded, Removing, RemovingPadded, section_of};
