@@ -94,7 +94,6 @@ impl fmt::Display for Clearance {
         if *self == Clearance::no_way() {
             return f.write_str("no way");
         }
-        let value = self.value;
-        write!(f, "clearance {value}")
+        write!(f, "clearance {}", self.value)
     }
 }

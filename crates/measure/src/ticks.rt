@@ -20,7 +20,7 @@ pub struct Ticks {
 impl Ticks {
     ghost use Rattle.measure.specs.Ticks.{ticks_if};
 
-    // That many ticks, or nothing beyond the top.
+    // That many ticks, or nothing beyond the top: one way to fail, so that an error type of a `TryFrom` would add only a name.
     pub fn new(value: u64) -> Option<Ticks>
         ensures { result ≡ ticks_if value }
     {
@@ -95,7 +95,6 @@ impl fmt::Display for Ticks {
         if *self == Ticks::no_way() {
             return f.write_str("no way");
         }
-        let value = self.value;
-        write!(f, "{value} ticks")
+        write!(f, "{} ticks", self.value)
     }
 }

@@ -121,8 +121,6 @@ impl fmt::Display for Trip {
         if *self == Trip::no_way() {
             return f.write_str("no way");
         }
-        let ticks = self.ticks;
-        let transfers = self.transfers;
-        write!(f, "{ticks} ticks, {transfers} transfers")
+        write!(f, "{} ticks, {} transfers", self.ticks, self.transfers)
     }
 }

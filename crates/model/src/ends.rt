@@ -4,7 +4,7 @@ ghost use Rattle.std.specs.Option.{option_map};
 ghost use Rattle.model.specs.Small.{ends_of_row, ends_between};
 
 // Two different stations, the lower first. It never lies in a table: records hold plain numbers, from which a check makes it.
-#[derive(Clone, Copy, PartialEq, Eq, PartialOrd, Ord, Debug)]
+#[derive(Clone, Copy, PartialEq, Eq, Debug)]
 pub struct Ends {
     low: usize,
     high: usize,

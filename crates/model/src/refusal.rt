@@ -60,9 +60,7 @@ impl Refusal {
 
 impl fmt::Display for Refusal {
     fn fmt<W: fmt::Write>(&self, f: &mut fmt::Formatter<W>) -> fmt::Result {
-        let number = self.number();
-        let sentence = self.sentence();
-        write!(f, "refused {number}: {sentence}")
+        write!(f, "refused {}: {}", self.number(), self.sentence())
     }
 }
 

@@ -1,5 +1,5 @@
-// Placing a section in a table and removing one, by its ends. The table is fixed memory, lent for the call, and its owner keeps
-// the count: a struct of both would owe a clause for the reference in each method and say nothing more.
+// Placing a section in a table and removing one, by its ends. The table is fixed memory, lent for the call, and only
+// these two take its count with it: what lies behind the sections is part of what they promise.
 ghost use Rattle.std.specs.Prelude.{◌≡◌, ◌≤◌, true, length, take};
 ghost use Rattle.model.specs.Sections.{ascends};
 ghost use Rattle.tables.specs.Amending.{Placing, PlacingPadded, Removing, RemovingPadded, section_of};
