@@ -1,10 +1,10 @@
 -- The section blocks of a file, one behind the other.
 use Rattle.std.proofs.Common.{◌≡◌, ℕ, zero, suc, ◌+◌, ◌-◌, ◌*◌, ◌<◌, ◌≤◌, min, List, ◌++◌, length, take, drop, Some, sym, refl, ap, ◌∙◌, ap₂, ⊎_elim, add-one, arith, length-append, length-drop, length-take}
-use borrow.Rule.Slice.PartMut.{put_mid}
 use Rattle.std.proofs.lemmas.Bool.{cases_lt}
 use Rattle.std.proofs.lemmas.List.{take_all, take_at, drop_at, drop-drop, take-append-le, drop-append-le}
 use Rattle.lists.specs.Writes.{over}
-use Rattle.lists.proofs.Writing.{over_over, put_mid_over}
+use Rattle.lists.proofs.Cuts.{take_short, drop_short}
+use Rattle.lists.proofs.Writing.{over_over}
 use Rattle.blockfile.specs.declared.row.Row.{Row}
 use Rattle.std.specs.List.{flat_map}
 use Rattle.lists.specs.Bytes.{le}
@@ -32,14 +32,29 @@ unfolding section_part
 section_part_more code rows j = ap (section_part code rows) (add-one j)
 
 -- one more block behind those that are written
-pub blocks_more : (d : List ℕ) (code : ℕ) (rows : List Row) (j k : ℕ) (b s : List ℕ) → 512 ≤ length d → k ≡ 512 → b ≡ over d 512 (section_part code rows j) → s ≡ section_block code (j + 1) (chunk j rows) → put_mid ((j + 1) * 512) k b s ≡ over d 512 (section_part code rows (j + 1))
-blocks_more d code rows j k b s l h e f =
+pub blocks_more : (d : List ℕ) (code : ℕ) (rows : List Row) (j : ℕ) (b s : List ℕ) → 512 ≤ length d → b ≡ over d 512 (section_part code rows j) → s ≡ section_block code (j + 1) (chunk j rows) → over b ((j + 1) * 512) s ≡ over d 512 (section_part code rows (j + 1))
+blocks_more d code rows j b s l e f =
     let block = section_block code (j + 1) (chunk j rows) in
-    let long : length block ≡ 512 = length_section_block code (j + 1) (chunk j rows) (omega (arith, length_chunk j rows)) in
-    ap₂ (put_mid ((j + 1) * 512) k) e f
-    ∙ put_mid_over ((j + 1) * 512) k (over d 512 (section_part code rows j)) block (h ∙ sym long)
+    ap₂ (λ x y. over x ((j + 1) * 512) y) e f
     ∙ over_over d 512 ((j + 1) * 512) (section_part code rows j) block l (omega (arith, length_section_part code rows j))
     ∙ ap (over d 512) (sym (section_part_more code rows j))
+
+-- the next piece of the rows that are left, and what is left then
+pub record NextChunk (rows : List Row) (j : ℕ) (part next : List Row) : Type 0 where
+  pub taken : part ≡ chunk j rows
+  pub left : next ≡ drop (41 * (j + 1)) rows
+
+pub next_chunk : (rows : List Row) (j size : ℕ) (rest part next : List Row) → size ≡ 41 → rest ≡ drop (41 * j) rows → rest ≡ part ++ next → length part ≡ min size (length rest) → NextChunk rows j part next
+next_chunk rows j size rest part next s e f l =
+    let all = drop (41 * j) rows in
+    let both : part ++ next ≡ all = sym f ∙ e in
+    let count : min (length all) 41 ≡ length part = omega (arith, ap length e) in
+    let more : 41 * j + 41 ≡ 41 * (j + 1) = omega arith in
+    record {
+      taken = sym (take_at part next (length part) refl) ∙ ap₂ take (sym count) both ∙ take_short 41 all;
+      left = sym (drop_at part next (length part) refl) ∙ ap₂ drop (sym count) both ∙ drop_short 41 all
+          ∙ drop-drop 41 (41 * j) rows ∙ ap (λ n. drop n rows) more;
+    }
 
 pub before_is : (file : List ℕ) (j : ℕ) → 0 < j → before_block file j ≡ Some (row_in (block_at j file) 40)
 before_is file zero h = absurd (omega arith)
@@ -49,12 +64,10 @@ pub length_header : (n code total : ℕ) → length (header n code total) ≡ 51
 length_header n code total = length_block (front (header_front code) ++ (le 2 n ++ le 4 total)) (omega arith)
 
 -- the header in front and the section blocks behind it are the file
-pub file_over : (n code : ℕ) (d : List ℕ) (rows : List Row) → 512 ≤ length d → over (put_mid 0 512 d (header n code (length rows))) 512 (section_part code rows (blocks_for (length rows))) ≡ over d 0 (file_of n code rows)
-file_over n code d rows l =
-    let head = header n code (length rows) in
-    let part = section_part code rows (blocks_for (length rows)) in
-    ap (λ b. over b 512 part) (put_mid_over 0 512 d head (sym (length_header n code (length rows))))
-    ∙ over_over d 0 512 head part (omega arith) (omega (arith, length_header n code (length rows)))
+pub file_over : (n code : ℕ) (d : List ℕ) (rows : List Row) → over (over d 0 (header n code (length rows))) 512 (section_part code rows (blocks_for (length rows))) ≡ over d 0 (file_of n code rows)
+file_over n code d rows =
+    over_over d 0 512 (header n code (length rows)) (section_part code rows (blocks_for (length rows))) (omega arith)
+    (omega (arith, length_header n code (length rows)))
 
 -- each section block of a file stands at its place
 pub part_block : (code : ℕ) (rows : List Row) (blocks j : ℕ) → j < blocks → take 512 (drop (512 * j) (section_part code rows blocks)) ≡ section_block code (j + 1) (chunk j rows)

@@ -6,3 +6,4 @@ pub mod Whole
 pub mod Accepted
 pub mod Returned
 pub mod Kept
+pub mod Unused

@@ -14,7 +14,7 @@ use Rattle.blockfile.specs.declared.block.Front.{Front}
 use Rattle.blockfile.specs.declared.row.Row.{Row}
 use Rattle.blockfile.specs.declared.fault.Flaw.TheVariants as flaws
 use Rattle.blockfile.specs.Rows.{blank_row}
-use Rattle.blockfile.specs.Blocks.{first_check, second_check, checks_hold, sealed, block_from, front, header_front, section_front, header, entry_of, section_block, row_in}
+use Rattle.blockfile.specs.Blocks.{kind_byte, first_check, second_check, checks_hold, sealed, block_from, front, header_front, section_front, header, entry_of, section_block, row_in}
 use Rattle.blockfile.specs.Judging.{front_judged, unused_judged, byte_judged, sizes_judged, header_judged, sections_judged, record_judged, good_row, row_before, blocks_for}
 use Rattle.blockfile.proofs.Sums.{first_front, second_front}
 use Rattle.blockfile.proofs.Building.{length_entries}
@@ -41,7 +41,7 @@ front_returns f body l h g =
     let checks : checks_hold b ≡ true = checks_return (filled 508 (front f ++ body)) (length_filled 508 (front f ++ body) (omega arith)) in
     demand_holds (checks_hold b) flaws.Check _ checks
     ∙ demand_holds (eqb (value 4 b 0) f.number) flaws.Number _ (eq-eqb (value 4 b 0) f.number (number_le 4 f.number h))
-    ∙ demand_holds (eqb f.kind f.kind) flaws.Kind _ (eq-eqb f.kind f.kind refl)
+    ∙ demand_holds (eqb (kind_byte f.kind) (kind_byte f.kind)) flaws.Kind _ (eq-eqb (kind_byte f.kind) (kind_byte f.kind) refl)
     ∙ demand_holds (eqb f.code f.code) flaws.Measure _ (eq-eqb f.code f.code refl)
     ∙ demand_holds (eqb (value 2 b 4) f.count) flaws.Count (Ok tt) (eq-eqb (value 2 b 4) f.count (number_le 2 f.count g))
 

@@ -1,8 +1,12 @@
 -- The check sums of a block.
-use Rattle.std.proofs.Common.{◌≡◌, ℕ, zero, suc, ◌+◌, ◌-◌, ◌*◌, ◌%◌, ◌<◌, ◌≤◌, List, ◌++◌, length, take, drop, sym, refl, ap, ◌∙◌, ap₂, add-one, arith, take-append-drop}
-use Rattle.std.proofs.lemmas.Nat.{mul-le}
+use Rattle.std.proofs.Common.{◌≡◌, ℕ, zero, suc, ◌+◌, ◌-◌, ◌*◌, ◌%◌, ◌<◌, ◌≤◌, List, ◌++◌, length, get_or, take, drop, w16, sym, refl, ap, ◌∙◌, ap₂, add-one, arith, take-append-drop}
+use native.Mathlib.Nat.{suc-mul, mul-add}
+use Rattle.std.specs.Int.{from_le_bytes}
+use Rattle.std.specs.Simd.{first_chunks}
 use Rattle.std.proofs.lemmas.List.{length-take-le}
-use Rattle.lists.proofs.Digits.{value_front}
+use Rattle.lists.specs.Bytes.{value}
+use Rattle.lists.proofs.Cuts.{length_part, get_or-first_chunks}
+use Rattle.lists.proofs.Digits.{number_two, value_front}
 use Rattle.blockfile.specs.Blocks.{word, plain_sum, weighted_sum, first_check, second_check}
 
 pub plain_more : (b : List ℕ) (j : ℕ) → plain_sum b (j + 1) ≡ plain_sum b j + word b j
@@ -13,9 +17,26 @@ pub weighted_more : (b : List ℕ) (j : ℕ) → weighted_sum b (j + 1) ≡ weig
 unfolding weighted_sum
 weighted_more b j = ap (weighted_sum b) (add-one j)
 
--- a word counted at most 254 times
-pub weighted_room : (j w : ℕ) → w < 65536 → (254 - j) * w ≤ 16645890
-weighted_room j w h = mul-le (254 - j) w 254 65535 (omega arith) (omega arith)
+-- one more word, where the sums that the first sum goes through are added up
+pub weighted_step : (b : List ℕ) (j plain weighted w : ℕ) → j < 254 → w ≡ word b j → weighted_sum b j ≡ weighted + (254 - j) * plain → weighted_sum b (j + 1) ≡ (weighted + (plain + w)) + (254 - (j + 1)) * (plain + w)
+weighted_step b j plain weighted w h e i =
+    let m = 254 - (j + 1) in
+    let left : 254 - j ≡ suc m = omega arith in
+    let before : weighted_sum b j ≡ weighted + (m * plain + plain) = i ∙ ap (λ k. weighted + k * plain) left ∙ ap (λ k. weighted + k) (suc-mul m plain) in
+    let more : (254 - j) * word b j ≡ m * w + w = ap₂ (λ k x. k * x) left (sym e) ∙ suc-mul m w in
+    let split : m * (plain + w) ≡ m * plain + m * w = mul-add m plain w in
+    weighted_more b j ∙ omega arith
+
+-- the word at a place, as the code reads it
+pub word_is : (b : List ℕ) (words : List (List ℕ)) (k j : ℕ) (d : List ℕ) → length b ≡ 512 → k ≡ 254 → j < 254 → words ≡ first_chunks 2 k (take 508 b) → from_le_bytes w16 (get_or words j d) ≡ word b j
+word_is b words k j d l n h e =
+    let part = take 508 b in
+    let long = length-take-le 508 b (omega arith) in
+    let cut : get_or words j d ≡ take 2 (drop (2 * j) part) = ap (λ ws. get_or ws j d) e ∙ get_or-first_chunks 2 k part j d (omega arith) in
+    ap (from_le_bytes w16) cut
+    ∙ number_two (take 2 (drop (2 * j) part)) (length_part 2 (2 * j) part (omega arith))
+    ∙ sym (value_front 2 part (drop 508 b) (2 * j) (omega arith))
+    ∙ ap (λ x. value 2 x (2 * j)) (take-append-drop 508 b)
 
 -- words within b do not depend on what stands behind it
 pub plain_front : (b t : List ℕ) (j : ℕ) → 2 * j ≤ length b → plain_sum (b ++ t) j ≡ plain_sum b j

@@ -12,7 +12,7 @@ use Rattle.lists.proofs.Failing.{demand_ok, none_at}
 use Rattle.blockfile.specs.declared.block.Front.{Front}
 use Rattle.blockfile.specs.declared.row.Row.{Row}
 use Rattle.blockfile.specs.declared.fault.Flaw.TheVariants as flaws
-use Rattle.blockfile.specs.Blocks.{first_check, second_check, checks_hold, sealed, block_from, front, header_front, section_front, header, entry_of, section_block, row_in}
+use Rattle.blockfile.specs.Blocks.{kind_byte, first_check, second_check, checks_hold, sealed, block_from, front, header_front, section_front, header, entry_of, section_block, row_in}
 use Rattle.blockfile.specs.Judging.{front_judged, unused_judged, byte_judged}
 use Rattle.blockfile.proofs.Sums.{first_take, second_take}
 use Rattle.blockfile.proofs.Passed.{HeaderOk, SectionsOk}
@@ -21,7 +21,7 @@ use Rattle.blockfile.proofs.Passed.{HeaderOk, SectionsOk}
 pub record Fronted (b : List ℕ) (f : Front) : Type 0 where
   pub checks : checks_hold b ≡ true
   pub number : value 4 b 0 ≡ f.number
-  pub kind : get_or b 6 0 ≡ f.kind
+  pub kind : get_or b 6 0 ≡ kind_byte f.kind
   pub code : get_or b 7 0 ≡ f.code
   pub count : value 2 b 4 ≡ f.count
 
@@ -29,13 +29,13 @@ pub front_ok : (b : List ℕ) (f : Front) → front_judged b f ≡ Ok tt → Fro
 front_ok b f e =
     let checks = demand_ok (checks_hold b) flaws.Check _ tt e in
     let number = demand_ok (eqb (value 4 b 0) f.number) flaws.Number _ tt checks.1 in
-    let kind = demand_ok (eqb (get_or b 6 0) f.kind) flaws.Kind _ tt number.1 in
+    let kind = demand_ok (eqb (get_or b 6 0) (kind_byte f.kind)) flaws.Kind _ tt number.1 in
     let code = demand_ok (eqb (get_or b 7 0) f.code) flaws.Measure _ tt kind.1 in
     let count = demand_ok (eqb (value 2 b 4) f.count) flaws.Count (Ok tt) tt code.1 in
     record {
       checks = checks.0;
       number = eqb-true (value 4 b 0) f.number number.0;
-      kind = eqb-true (get_or b 6 0) f.kind kind.0;
+      kind = eqb-true (get_or b 6 0) (kind_byte f.kind) kind.0;
       code = eqb-true (get_or b 7 0) f.code code.0;
       count = eqb-true (value 2 b 4) f.count count.0;
     }

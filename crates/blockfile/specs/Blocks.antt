@@ -4,6 +4,8 @@ use Rattle.std.specs.List.{flat_map}
 use Rattle.lists.specs.Bytes.{le, value}
 use Rattle.lists.specs.Writes.{filled}
 use Rattle.blockfile.specs.declared.row.Row.{Row}
+use Rattle.blockfile.specs.declared.block.Kind.{Kind}
+use Rattle.blockfile.specs.declared.block.Kind.TheVariants.{Header, Sections}
 use Rattle.blockfile.specs.declared.block.Front.{Front}
 
 -- the 16-bit word at place j of a block
@@ -36,17 +38,22 @@ sealed body = body ++ (le 2 (first_check body) ++ le 2 (second_check body))
 abbrev pub block_from : List ℕ → List ℕ
 block_from fields = sealed (filled 508 fields)
 
+-- the byte that says of which kind a block is
+abbrev pub kind_byte : Kind → ℕ
+kind_byte Header = 1
+kind_byte Sections = 2
+
 -- what every block begins with: bytes 0-3 its number, 4-5 its record count, 6 its kind, 7 the measure's code
 abbrev pub front : Front → List ℕ
-front f = le 4 f.number ++ (le 2 f.count ++ (f.kind ∷ f.code ∷ []))
+front f = le 4 f.number ++ (le 2 f.count ++ (kind_byte f.kind ∷ f.code ∷ []))
 
 -- what the header begins with: it is block 0, of kind 1, and has no records
 abbrev pub header_front : ℕ → Front
-header_front code = record { number = 0; count = 0; kind = 1; code = code }
+header_front code = record { number = 0; count = 0; kind = Header; code = code }
 
 -- what a section block begins with: it is of kind 2
 abbrev pub section_front : ℕ → ℕ → ℕ → Front
-section_front k count code = record { number = k; count = count; kind = 2; code = code }
+section_front k count code = record { number = k; count = count; kind = Sections; code = code }
 
 -- the header: behind its front the number of stations in bytes 8-9 and the total of sections in bytes 10-13
 abbrev pub header : ℕ → ℕ → ℕ → List ℕ

@@ -8,7 +8,7 @@ use Rattle.blockfile.specs.declared.fault.Flaw.{Flaw}
 use Rattle.blockfile.specs.declared.fault.Flaw.TheVariants as flaws
 use Rattle.blockfile.specs.declared.fault.BlockFault.{BlockFault}
 use Rattle.blockfile.specs.Rows.{ahead}
-use Rattle.blockfile.specs.Blocks.{checks_hold, header_front, section_front, row_in}
+use Rattle.blockfile.specs.Blocks.{kind_byte, checks_hold, header_front, section_front, row_in}
 
 -- a judgement: no fault, or what is wrong
 abbrev pub Judged : Type 0 → Type 0
@@ -19,7 +19,7 @@ abbrev pub front_judged : List ℕ → Front → Judged Flaw
 front_judged b f =
     demand (checks_hold b) flaws.Check
     (demand (value 4 b 0 == f.number) flaws.Number
-    (demand (slice_index b 6 == f.kind) flaws.Kind
+    (demand (slice_index b 6 == kind_byte f.kind) flaws.Kind
     (demand (slice_index b 7 == f.code) flaws.Measure
     (demand (value 2 b 4 == f.count) flaws.Count (Ok tt)))))
 

@@ -1,10 +1,10 @@
 // The block layer: 512 bytes with a front, fields or records, and two check sums.
 
-ghost use Rattle.std.specs.Prelude.{◌≡◌, ◌+◌, ◌*◌, ◌^◌, ◌<◌, ◌≤◌, length, take};
+ghost use Rattle.std.specs.Prelude.{◌≡◌, ◌+◌, ◌*◌, ◌<◌, ◌≤◌, length, take};
 ghost use Rattle.std.specs.List.{flat_map};
 ghost use Rattle.lists.specs.Writes.{over};
 ghost use Rattle.lists.specs.Places.{first_fault};
-ghost use Rattle.blockfile.specs.Blocks.{front as front_bytes, first_check, second_check, sealed, header, entry_of, section_block, row_in, checks_hold};
+ghost use Rattle.blockfile.specs.Blocks.{kind_byte, front as front_bytes, header_front, section_front, first_check, second_check, sealed, header, entry_of, section_block, row_in, checks_hold};
 ghost use Rattle.blockfile.specs.Judging.{front_judged, unused_judged, blocks_for, sizes_judged, header_judged, good_row, record_judged, sections_judged, at_block};
 
 use crate::fault::{BlockFault, Flaw};
@@ -16,38 +16,105 @@ pub(crate) const BLOCK: usize = 512;
 
 pub(crate) const RECORDS: usize = 41;
 
-const HEADER: u8 = 1;
+pub(crate) type Block = [u8; BLOCK];
 
-const SECTIONS: u8 = 2;
+// What a block is; a byte of its front says so.
+#[derive(Clone, Copy)]
+enum Kind {
+    Header,
+    Sections,
+}
 
-// The eight bytes that every block begins with.
+impl From<Kind> for u8 {
+    ghost from_gives = { λ kind byte. byte ≡ kind_byte kind };
+
+    fn from(kind: Kind) -> u8 {
+        match kind {
+            Kind::Header => 1,
+            Kind::Sections => 2,
+        }
+    }
+}
+
+// What the eight bytes say that every block begins with; each measure gives its own code, so no enum has them all.
 #[derive(Clone, Copy)]
 struct Front {
-    number: usize,
-    count: usize,
-    kind: u8,
+    number: u32,
+    count: u16,
+    kind: Kind,
     code: u8,
 }
 
-// The two check sums over the words of the first 508 bytes.
-fn checks(block: &[u8]) -> (u16, u16)
-    requires { 508 ≤ length block.now }
+impl Front {
+    fn of_header(code: u8) -> Front
+        ensures { result ≡ header_front code }
+    {
+        Front {
+            number: 0,
+            count: 0,
+            kind: Kind::Header,
+            code,
+        }
+    }
+
+    fn of_sections(number: u32, count: u16, code: u8) -> Front
+        ensures { result ≡ section_front number count code }
+    {
+        Front {
+            number,
+            count,
+            kind: Kind::Sections,
+            code,
+        }
+    }
+
+    fn put_in(self, block: &mut Block)
+        ensures { block.new ≡ over block.old 0 (front_bytes self) }
+    {
+        put(block, 0, &self.number.to_le_bytes());
+        put(block, 4, &self.count.to_le_bytes());
+        put(block, 6, &[u8::from(self.kind), self.code]);
+    }
+
+    // Judges check sums, block number, kind, measure and record count, in this order.
+    fn check(self, block: &Block) -> Result<(), Flaw>
+        ensures { result ≡ front_judged block.now self }
+    {
+        if !checks_hold(block) {
+            return Err(Flaw::Check);
+        }
+        if field(block, 0, 4) != u64::from(self.number) {
+            return Err(Flaw::Number);
+        }
+        if block[6] != u8::from(self.kind) {
+            return Err(Flaw::Kind);
+        }
+        if block[7] != self.code {
+            return Err(Flaw::Measure);
+        }
+        if field(block, 4, 2) != u64::from(self.count) {
+            return Err(Flaw::Count);
+        }
+        Ok(())
+    }
+}
+
+// The two check sums over the words of the first 508 bytes: the second adds up the sums that the first goes through.
+fn checks(block: &Block) -> (u16, u16)
     ensures first { result.0 ≡ first_check block.now }
     ensures second { result.1 ≡ second_check block.now }
 {
     let mut plain: u64 = 0;
     let mut weighted: u64 = 0;
-    for j in 0..254 {
-        let word = field(block, 2 * j, 2);
-        plain += word;
-        weighted += (254 - j as u64) * word;
+    for word in block[..508].as_chunks::<2>().0 {
+        plain += u64::from(u16::from_le_bytes(*word));
+        weighted += plain;
     }
     ((plain % 65535) as u16, (weighted % 65535) as u16)
 }
 
 // Writes the check sums of the first 508 bytes behind them.
-fn seal(block: &mut [u8])
-    requires { length block.old ≡ 512 }
+fn seal(block: &mut Block)
     ensures { block.new ≡ sealed (take 508 block.old) }
 {
     let (first, second) = checks(block);
@@ -55,21 +122,9 @@ fn seal(block: &mut [u8])
     put(block, 510, &second.to_le_bytes());
 }
 
-// Puts in the eight bytes that every block begins with.
-fn put_front(block: &mut [u8], front: Front)
-    requires long { length block.old ≡ 512 }
-    requires number { front.number < 2 ^ 32 }
-    requires count { front.count < 2 ^ 16 }
-    ensures { block.new ≡ over block.old 0 (front_bytes front) }
-{
-    put(block, 0, &(front.number as u32).to_le_bytes());
-    put(block, 4, &(front.count as u16).to_le_bytes());
-    put(block, 6, &[front.kind, front.code]);
-}
-
 // Puts in the twelve bytes of a record.
-fn put_row(block: &mut [u8], at: usize, row: Row)
-    requires { at + 12 ≤ length block.old }
+fn put_row(block: &mut Block, at: usize, row: Row)
+    requires { at + 12 ≤ 512 }
     ensures { block.new ≡ over block.old at (entry_of row) }
 {
     put(block, at, &row.low.to_le_bytes());
@@ -78,102 +133,55 @@ fn put_row(block: &mut [u8], at: usize, row: Row)
 }
 
 // Puts in the records of a section block, one behind the other.
-fn put_rows(block: &mut [u8], rows: &[Row])
-    requires long { length block.old ≡ 512 }
-    requires few { length rows.now ≤ 41 }
+fn put_rows(block: &mut Block, rows: &[Row])
+    requires { length rows.now ≤ 41 }
     ensures { block.new ≡ over block.old 8 (flat_map entry_of rows.now) }
 {
-    for i in 0..rows.len() {
-        put_row(block, 8 + 12 * i, rows[i]);
+    for (place, row) in rows.iter().enumerate() {
+        put_row(block, 8 + 12 * place, *row);
     }
 }
 
-// Writes the header of a file of `n` stations and `total` sections.
-pub(crate) fn write_header(out: &mut [u8], n: u16, code: u8, total: u32)
-    requires { length out.old ≡ 512 }
-    ensures { out.new ≡ header n code total }
+// The header of a file of `n` stations and `total` sections.
+pub(crate) fn header(n: u16, code: u8, total: u32) -> Block
+    ensures { result ≡ header n code total }
 {
-    let mut block = [0u8; 512];
-    put_front(
-        &mut block,
-        Front {
-            number: 0,
-            count: 0,
-            kind: HEADER,
-            code,
-        },
-    );
+    let mut block = [0; BLOCK];
+    Front::of_header(code).put_in(&mut block);
     put(&mut block, 8, &n.to_le_bytes());
     put(&mut block, 10, &total.to_le_bytes());
     seal(&mut block);
-    out.copy_from_slice(&block);
+    block
 }
 
-// Writes the section block of that number with these rows.
-pub(crate) fn write_sections(out: &mut [u8], number: usize, code: u8, rows: &[Row])
-    requires long { length out.old ≡ 512 }
-    requires few { length rows.now ≤ 41 }
-    requires small { number < 2 ^ 32 }
-    ensures { out.new ≡ section_block code number rows.now }
+// The section block of that number with these rows.
+pub(crate) fn section_block(number: u32, code: u8, rows: &[Row]) -> Block
+    requires { length rows.now ≤ 41 }
+    ensures { result ≡ section_block code number rows.now }
 {
-    let mut block = [0u8; 512];
-    put_front(
-        &mut block,
-        Front {
-            number,
-            count: rows.len(),
-            kind: SECTIONS,
-            code,
-        },
-    );
+    let mut block = [0; BLOCK];
+    Front::of_sections(number, rows.len() as u16, code).put_in(&mut block);
     put_rows(&mut block, rows);
     seal(&mut block);
-    out.copy_from_slice(&block);
+    block
 }
 
 // The stored check sums are those of the words; a stored 65,535 is none.
-fn checks_hold(block: &[u8]) -> bool
-    requires { length block.now ≡ 512 }
+fn checks_hold(block: &Block) -> bool
     ensures { result ≡ checks_hold block.now }
 {
     let (first, second) = checks(block);
-    field(block, 508, 2) == first as u64 && field(block, 510, 2) == second as u64
-}
-
-// Judges check sums, block number, kind, measure and record count, in this order.
-fn check_front(block: &[u8], front: Front) -> Result<(), Flaw>
-    requires { length block.now ≡ 512 }
-    ensures { result ≡ front_judged block.now front }
-{
-    if !checks_hold(block) {
-        return Err(Flaw::Check);
-    }
-    if field(block, 0, 4) != front.number as u64 {
-        return Err(Flaw::Number);
-    }
-    if block[6] != front.kind {
-        return Err(Flaw::Kind);
-    }
-    if block[7] != front.code {
-        return Err(Flaw::Measure);
-    }
-    if field(block, 4, 2) != front.count as u64 {
-        return Err(Flaw::Count);
-    }
-    Ok(())
+    field(block, 508, 2) == u64::from(first) && field(block, 510, 2) == u64::from(second)
 }
 
 // The bytes from `start` on hold no field: they have to be zero.
-fn check_unused(block: &[u8], start: usize) -> Result<(), Flaw>
-    requires { length block.now ≡ 512 }
+fn check_unused(block: &Block, start: usize) -> Result<(), Flaw>
     ensures { result ≡ unused_judged block.now start }
 {
-    for i in start..508 {
-        if block[i] != 0 {
-            return Err(Flaw::Unused(i));
-        }
+    match (start..508).find(|&at| block[at] != 0) {
+        None => Ok(()),
+        Some(at) => Err(Flaw::Unused(at)),
     }
-    Ok(())
 }
 
 // How many blocks hold `total` sections.
@@ -183,142 +191,110 @@ pub(crate) fn section_blocks(total: usize) -> usize
     total.div_ceil(RECORDS)
 }
 
-// Judges the number of stations, and then the total against the number of blocks.
-fn check_sizes(block: &[u8], n: usize, blocks: usize) -> Result<(), Flaw>
-    requires { length block.now ≡ 512 }
-    ensures { result ≡ sizes_judged n blocks block.now }
-{
-    if field(block, 8, 2) != n as u64 {
-        return Err(Flaw::Stations);
-    }
-    if 1 + section_blocks(field(block, 10, 4) as usize) != blocks {
-        return Err(Flaw::Total);
-    }
-    Ok(())
-}
-
-fn judge_header(block: &[u8], n: usize, code: u8, blocks: usize) -> Result<(), Flaw>
-    requires { length block.now ≡ 512 }
-    ensures { result ≡ header_judged n code blocks block.now }
-{
-    check_front(
-        block,
-        Front {
-            number: 0,
-            count: 0,
-            kind: HEADER,
-            code,
-        },
-    )?;
-    check_sizes(block, n, blocks)?;
-    check_unused(block, 14)
-}
-
-// Judges the header of a file of `n` stations and `blocks` blocks.
-pub(crate) fn check_header(
-    block: &[u8],
-    n: usize,
-    code: u8,
-    blocks: usize,
-) -> Result<(), BlockFault>
-    requires { length block.now ≡ 512 }
-    ensures { result ≡ at_block 0 (header_judged n code blocks block.now) }
-{
-    match judge_header(block, n, code, blocks) {
-        Ok(()) => Ok(()),
-        Err(flaw) => Err(BlockFault { block: 0, flaw }),
-    }
-}
-
 // The row at a place of a section block.
-pub(crate) fn row_in(block: &[u8], place: usize) -> Row
-    requires long { length block.now ≡ 512 }
-    requires within { place < 41 }
+pub(crate) fn row_in(block: &Block, place: usize) -> Row
+    requires { place < 41 }
     ensures { result ≡ row_in block.now place }
 {
-    let low = field(block, 8 + 12 * place, 2) as u16;
-    let high = field(block, 10 + 12 * place, 2) as u16;
-    let number = field(block, 12 + 12 * place, 8);
-    Row { low, high, number }
-}
-
-// A row is good: two stations, lower first, a number that reads back, and behind the row before it.
-fn is_good<N: Numbers>(row: Row, n: usize, before: Option<Row>) -> bool
-    ensures { result ≡ good_row n N.Numbers.readable before row }
-{
-    let follows = match before {
-        None => true,
-        Some(last) => last.is_ahead_of(row),
-    };
-    let readable = N::is_readable(row.number);
-    row.low < row.high && (row.high as usize) < n && readable && follows
-}
-
-// Judges the records in order.
-fn check_records<N: Numbers>(
-    block: &[u8],
-    count: usize,
-    n: usize,
-    before: Option<Row>,
-) -> Result<(), Flaw>
-    requires long { length block.now ≡ 512 }
-    requires few { count ≤ 41 }
-    ensures { result ≡ first_fault (record_judged n N.Numbers.readable before block.now) count 0 }
-{
-    let mut last = before;
-    for place in 0..count {
-        let row = row_in(block, place);
-        if !is_good::<N>(row, n, last) {
-            return Err(Flaw::Record(8 + 12 * place));
-        }
-        last = Some(row);
+    let at = 8 + 12 * place;
+    Row {
+        low: field(block, at, 2) as u16,
+        high: field(block, at + 2, 2) as u16,
+        number: field(block, at + 4, 8),
     }
-    Ok(())
 }
 
-fn judge_sections<N: Numbers>(
-    block: &[u8],
-    number: usize,
-    count: usize,
-    n: usize,
-    code: u8,
-    before: Option<Row>,
-) -> Result<(), Flaw>
-    requires long { length block.now ≡ 512 }
-    requires few { count ≤ 41 }
-    ensures { result ≡ sections_judged n N.Numbers.readable code number count before block.now }
-{
-    check_front(
-        block,
-        Front {
-            number,
-            count,
-            kind: SECTIONS,
-            code,
-        },
-    )?;
-    check_unused(block, 8 + 12 * count)?;
-    check_records::<N>(block, count, n, before)
+// Where a section block stands in its file: its number, how many records it has, and the row before them.
+#[derive(Clone, Copy)]
+pub(crate) struct Place {
+    pub(crate) number: u32,
+    pub(crate) count: u16,
+    pub(crate) before: Option<Row>,
+    ghost few: { count ≤ 41 },
 }
 
-// Judges section block `number` with `count` records, which stand behind the row `before`.
-pub(crate) fn check_sections<N: Numbers>(
-    block: &[u8],
-    number: usize,
-    count: usize,
-    n: usize,
-    code: u8,
-    before: Option<Row>,
-) -> Result<(), BlockFault>
-    requires long { length block.now ≡ 512 }
-    requires few { count ≤ 41 }
-    ensures { result ≡ at_block number (sections_judged n N.Numbers.readable code number count before block.now) }
-{
-    match judge_sections::<N>(block, number, count, n, code, before) {
-        Ok(()) => Ok(()),
-        Err(flaw) => Err(BlockFault {
-            block: number,
-            flaw,
-        }),
+// What the reader expects of a whole file: its number of stations and its measure.
+#[derive(Clone, Copy)]
+pub(crate) struct Reader {
+    pub(crate) n: usize,
+    pub(crate) code: u8,
+}
+
+impl Reader {
+    // Judges the number of stations, and then the total against the number of blocks.
+    fn check_sizes(self, block: &Block, blocks: usize) -> Result<(), Flaw>
+        ensures { result ≡ sizes_judged self.n blocks block.now }
+    {
+        if field(block, 8, 2) != self.n as u64 {
+            return Err(Flaw::Stations);
+        }
+        if 1 + section_blocks(field(block, 10, 4) as usize) != blocks {
+            return Err(Flaw::Total);
+        }
+        Ok(())
+    }
+
+    fn judge_header(self, block: &Block, blocks: usize) -> Result<(), Flaw>
+        ensures { result ≡ header_judged self.n self.code blocks block.now }
+    {
+        Front::of_header(self.code).check(block)?;
+        self.check_sizes(block, blocks)?;
+        check_unused(block, 14)
+    }
+
+    // Judges the header of a file of that many blocks.
+    pub(crate) fn check_header(self, block: &Block, blocks: usize) -> Result<(), BlockFault>
+        ensures { result ≡ at_block 0 (header_judged self.n self.code blocks block.now) }
+    {
+        self.judge_header(block, blocks)
+            .map_err(|flaw| BlockFault { block: 0, flaw })
+    }
+
+    // A row is good: two stations, lower first, a number that reads back, and behind the row before it.
+    fn is_good<N: Numbers>(self, row: Row, before: Option<Row>) -> bool
+        ensures { result ≡ good_row self.n N.Numbers.readable before row }
+    {
+        let follows = before.is_none_or(|last| last.is_ahead_of(row));
+        let readable = N::is_readable(row.number);
+        row.low < row.high && usize::from(row.high) < self.n && readable && follows
+    }
+
+    // Judges the records in order; the number of a place names its bytes.
+    fn check_records<N: Numbers>(self, block: &Block, place: Place) -> Result<(), Flaw>
+        ensures { result ≡ first_fault (record_judged self.n N.Numbers.readable place.before block.now) place.count 0 }
+    {
+        let mut last = place.before;
+        for i in 0..usize::from(place.count) {
+            let row = row_in(block, i);
+            if !self.is_good::<N>(row, last) {
+                return Err(Flaw::Record(8 + 12 * i));
+            }
+            last = Some(row);
+        }
+        Ok(())
+    }
+
+    fn judge_sections<N: Numbers>(self, block: &Block, place: Place) -> Result<(), Flaw>
+        ensures { result ≡ sections_judged self.n N.Numbers.readable self.code place.number place.count place.before block.now }
+    {
+        Front::of_sections(place.number, place.count, self.code).check(block)?;
+        check_unused(block, 8 + 12 * usize::from(place.count))?;
+        self.check_records::<N>(block, place)
+    }
+
+    // Judges the section block that stands at that place.
+    pub(crate) fn check_sections<N: Numbers>(
+        self,
+        block: &Block,
+        place: Place,
+    ) -> Result<(), BlockFault>
+        ensures { result ≡ at_block place.number (sections_judged self.n N.Numbers.readable self.code place.number place.count place.before block.now) }
+    {
+        let number = place.number as usize;
+        self.judge_sections::<N>(block, place)
+            .map_err(|flaw| BlockFault {
+                block: number,
+                flaw,
+            })
     }
 }

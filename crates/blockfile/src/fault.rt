@@ -5,11 +5,12 @@ ghost use Rattle.blockfile.specs.declared.fault.FileFault.TheVariants.{Block};
 ghost use Rattle.blockfile.specs.Faults.{refusal_in_block, byte_in_block, refusal_of, block_of, byte_of};
 
 use model::refusal::Refusal;
+use std::error::Error;
 use std::fmt;
 use std::fmt::Display;
 
 // What is wrong with a block, in the order in which a block is judged; an unused byte or a record is named by its first byte.
-#[derive(Clone, Copy)]
+#[derive(Clone, Copy, PartialEq, Eq, Debug)]
 pub enum Flaw {
     Check,
     Number,
@@ -25,14 +26,14 @@ pub enum Flaw {
 }
 
 // The fault of the block layer: which block, and what is wrong with it.
-#[derive(Clone, Copy)]
+#[derive(Clone, Copy, PartialEq, Eq, Debug)]
 pub struct BlockFault {
     pub block: usize,
     pub flaw: Flaw,
 }
 
 // The fault of the file layer, which carries that of the block layer whole.
-#[derive(Clone, Copy)]
+#[derive(Clone, Copy, PartialEq, Eq, Debug)]
 pub enum FileFault {
     // The number of stations or a table of the reader is unfit.
     Unfit,
@@ -51,23 +52,35 @@ impl From<BlockFault> for FileFault {
     }
 }
 
-impl Flaw {
-    fn refusal(self) -> Refusal
-        ensures { result ≡ refusal_in_block self }
-    {
-        match self {
+impl From<Flaw> for Refusal {
+    ghost from_gives = { λ flaw refusal. refusal ≡ refusal_in_block flaw };
+
+    fn from(flaw: Flaw) -> Refusal {
+        match flaw {
             Flaw::Check => Refusal::CheckSum,
             Flaw::Number => Refusal::BlockNumber,
-            Flaw::Kind => Refusal::BlockKind,
-            Flaw::Measure => Refusal::BlockKind,
-            Flaw::Count => Refusal::RecordCount,
-            Flaw::Stations => Refusal::RecordCount,
-            Flaw::Total => Refusal::RecordCount,
+            Flaw::Kind | Flaw::Measure => Refusal::BlockKind,
+            Flaw::Count | Flaw::Stations | Flaw::Total => Refusal::RecordCount,
             Flaw::Unused(_) => Refusal::UnusedByte,
             Flaw::Record(_) => Refusal::BadRecord,
         }
     }
+}
 
+impl From<FileFault> for Refusal {
+    ghost from_gives = { λ fault refusal. refusal ≡ refusal_of fault };
+
+    fn from(fault: FileFault) -> Refusal {
+        match fault {
+            FileFault::Unfit => Refusal::Unfit,
+            FileFault::SectionsFull => Refusal::SectionsFull,
+            FileFault::Length => Refusal::FileLength,
+            FileFault::Block(BlockFault { flaw, .. }) => Refusal::from(flaw),
+        }
+    }
+}
+
+impl Flaw {
     fn byte(self) -> usize
         ensures { result ≡ byte_in_block self }
     {
@@ -79,8 +92,7 @@ impl Flaw {
             Flaw::Count => 4,
             Flaw::Stations => 8,
             Flaw::Total => 10,
-            Flaw::Unused(at) => at,
-            Flaw::Record(at) => at,
+            Flaw::Unused(at) | Flaw::Record(at) => at,
         }
     }
 }
@@ -89,21 +101,14 @@ impl FileFault {
     pub fn refusal(self) -> Refusal
         ensures { result ≡ refusal_of self }
     {
-        match self {
-            FileFault::Unfit => Refusal::Unfit,
-            FileFault::SectionsFull => Refusal::SectionsFull,
-            FileFault::Length => Refusal::FileLength,
-            FileFault::Block(fault) => fault.flaw.refusal(),
-        }
+        Refusal::from(self)
     }
 
     pub fn block(self) -> usize
         ensures { result ≡ block_of self }
     {
         match self {
-            FileFault::Unfit => 0,
-            FileFault::SectionsFull => 0,
-            FileFault::Length => 0,
+            FileFault::Unfit | FileFault::SectionsFull | FileFault::Length => 0,
             FileFault::Block(fault) => fault.block,
         }
     }
@@ -113,9 +118,8 @@ impl FileFault {
         ensures { result ≡ byte_of self }
     {
         match self {
-            FileFault::Unfit => 0,
+            FileFault::Unfit | FileFault::Length => 0,
             FileFault::SectionsFull => 10,
-            FileFault::Length => 0,
             FileFault::Block(fault) => fault.flaw.byte(),
         }
     }
@@ -130,8 +134,4 @@ impl fmt::Display for FileFault {
     }
 }
 
-impl fmt::Debug for FileFault {
-    fn fmt<W: fmt::Write>(&self, f: &mut fmt::Formatter<W>) -> fmt::Result {
-        <FileFault as fmt::Display>::fmt(self, f)
-    }
-}
+impl Error for FileFault {}

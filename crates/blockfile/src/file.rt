@@ -8,13 +8,12 @@ ghost use Rattle.blockfile.specs.Laws.{ReadsBack, Accepted};
 ghost use Rattle.blockfile.specs.Rows.{blank_row};
 
 use crate::block::{
-    BLOCK, RECORDS, check_header, check_sections, row_in, section_blocks, write_header,
-    write_sections,
+    BLOCK, Block, Place, RECORDS, Reader, header, row_in, section_block, section_blocks,
 };
 use crate::fault::{BlockFault, FileFault};
 use crate::numbers::Numbers;
 use crate::row::Row;
-use lists::field;
+use lists::{field, put};
 
 // A length of whole blocks, at least one.
 fn is_whole(len: usize) -> bool
@@ -23,27 +22,19 @@ fn is_whole(len: usize) -> bool
     len > 0 && len % BLOCK == 0
 }
 
-// The rows of section block `j + 1`.
-fn chunk_of(rows: &[Row], j: usize) -> &[Row]
-    requires { 41 * j ≤ length rows.now }
-    ensures rows { result.now ≡ chunk j rows.now }
-    ensures few { length result.now ≤ 41 }
-{
-    let from = RECORDS * j;
-    let to = from + (rows.len() - from).min(RECORDS);
-    &rows[from..to]
-}
-
 // Writes the section blocks, each as its own part of the buffer.
 fn write_section_blocks(buffer: &mut [u8], code: u8, rows: &[Row])
     requires few { length rows.now ≤ 16384 }
     requires room { file_size (length rows.now) ≤ length buffer.old }
     ensures { buffer.new ≡ over buffer.old 512 (section_part code rows.now (blocks_for (length rows.now))) }
 {
-    for j in 0..section_blocks(rows.len()) {
+    for (j, rows) in rows.chunks(RECORDS).enumerate() {
         let number = j + 1;
-        let at = number * BLOCK;
-        write_sections(&mut buffer[at..at + BLOCK], number, code, chunk_of(rows, j));
+        put(
+            buffer,
+            number * BLOCK,
+            &section_block(number as u32, code, rows),
+        );
     }
 }
 
@@ -56,25 +47,20 @@ pub fn write_file(buffer: &mut [u8], n: u16, code: u8, rows: &[Row]) -> Result<u
     ensures reads_back { IfOk result (λ size. ReadsBack n code rows.now (take size buffer.new)) }
 {
     let size = BLOCK * (1 + section_blocks(rows.len()));
-    if !is_whole(buffer.len()) {
+    if !is_whole(buffer.len()) || buffer.len() < size {
         return Err(FileFault::Length);
     }
-    if buffer.len() < size {
-        return Err(FileFault::Length);
-    }
-    write_header(&mut buffer[0..BLOCK], n, code, rows.len() as u32);
+    put(buffer, 0, &header(n, code, rows.len() as u32));
     write_section_blocks(buffer, code, rows);
     Ok(size)
 }
 
 // Block `k` of a file.
-fn block_of(file: &[u8], k: usize) -> &[u8]
+fn block_of(file: &[u8], k: usize) -> &Block
     requires { k * 512 + 512 ≤ length file.now }
-    ensures bytes { result.now ≡ block_at k file.now }
-    ensures long { length result.now ≡ 512 }
+    ensures { result.now ≡ block_at k file.now }
 {
-    let at = k * BLOCK;
-    &file[at..at + BLOCK]
+    &file.as_chunks().0[k]
 }
 
 // The total of sections that the header gives.
@@ -86,52 +72,42 @@ fn total_of(file: &[u8]) -> usize
     field(block_of(file, 0), 10, 4) as usize
 }
 
-// How many records section block `j + 1` holds.
-fn count_in(total: usize, j: usize) -> usize
-    requires { 41 * j ≤ total }
-    ensures count { result ≡ count_in total j }
-    ensures few { result ≤ 41 }
+// The place of section block `j + 1` in a file with that total: all blocks before it are full.
+fn place_of(file: &[u8], total: usize, j: usize) -> Place
+    requires full { 41 * j ≤ total }
+    requires within { j * 512 + 512 ≤ length file.now }
+    requires small { j + 1 < 2 ^ 32 }
+    ensures number { result.number ≡ j + 1 }
+    ensures count { result.count ≡ count_in total j }
+    ensures before { result.before ≡ before_block file.now j }
 {
-    (total - RECORDS * j).min(RECORDS)
-}
-
-// The last row of the block before section block `j + 1`.
-fn row_before(file: &[u8], j: usize) -> Option<Row>
-    requires { j * 512 + 512 ≤ length file.now }
-    ensures { result ≡ before_block file.now j }
-{
-    if j == 0 {
-        return None;
+    let before = (j > 0).then(|| row_in(block_of(file, j), RECORDS - 1));
+    Place {
+        number: (j + 1) as u32,
+        count: (total - RECORDS * j).min(RECORDS) as u16,
+        before,
     }
-    Some(row_in(block_of(file, j), RECORDS - 1))
 }
 
 // Judges the section blocks in order; the header was accepted before, so the total fits the length.
-fn check_section_blocks<N: Numbers>(file: &[u8], n: usize, code: u8) -> Result<(), BlockFault>
+fn check_section_blocks<N: Numbers>(reader: Reader, file: &[u8]) -> Result<(), BlockFault>
     requires { length file.now ≡ file_size (total_in file.now) }
-    ensures { result ≡ sections_of_file_judged n N.Numbers.readable code file.now }
+    ensures { result ≡ sections_of_file_judged reader.n N.Numbers.readable reader.code file.now }
 {
     let total = total_of(file);
-    for j in 0..file.len() / BLOCK - 1 {
-        check_sections::<N>(
-            block_of(file, j + 1),
-            j + 1,
-            count_in(total, j),
-            n,
-            code,
-            row_before(file, j),
-        )?;
+    for j in 0..section_blocks(total) {
+        reader.check_sections::<N>(block_of(file, j + 1), place_of(file, total, j))?;
     }
     Ok(())
 }
 
 // A fault of a block becomes one of the file by `?`.
-fn check_blocks<N: Numbers>(file: &[u8], n: usize, code: u8) -> Result<usize, FileFault>
+fn check_blocks<N: Numbers>(reader: Reader, file: &[u8]) -> Result<usize, FileFault>
     requires { whole_blocks (length file.now) ≡ true }
-    ensures { result ≡ file_judged n N.Numbers.readable code file.now }
+    ensures { result ≡ file_judged reader.n N.Numbers.readable reader.code file.now }
 {
-    check_header(block_of(file, 0), n, code, file.len() / BLOCK)?;
-    check_section_blocks::<N>(file, n, code)?;
+    reader.check_header(block_of(file, 0), file.len() / BLOCK)?;
+    check_section_blocks::<N>(reader, file)?;
     Ok(total_of(file))
 }
 
@@ -143,7 +119,7 @@ pub fn check_file<N: Numbers>(file: &[u8], n: usize, code: u8) -> Result<usize, 
     if !is_whole(file.len()) {
         return Err(FileFault::Length);
     }
-    check_blocks::<N>(file, n, code)
+    check_blocks::<N>(Reader { n, code }, file)
 }
 
 // Row `i` of a file that was accepted, read in place.

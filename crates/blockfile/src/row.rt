@@ -3,7 +3,7 @@
 ghost use Rattle.std.specs.Prelude.{◌≡◌};
 ghost use Rattle.blockfile.specs.Rows.{ahead};
 
-#[derive(Clone, Copy)]
+#[derive(Clone, Copy, PartialEq, Eq, Debug)]
 pub struct Row {
     pub low: u16,
     pub high: u16,
@@ -15,6 +15,6 @@ impl Row {
     pub(crate) fn is_ahead_of(self, next: Row) -> bool
         ensures { result ≡ ahead self next }
     {
-        self.low < next.low || (self.low == next.low && self.high < next.high)
+        (self.low, self.high) < (next.low, next.high)
     }
 }

@@ -1,7 +1,9 @@
 -- Numbers as bytes, the lowest first: each of `le` and `number` takes back the other.
-use Rattle.std.proofs.Common.{◌≡◌, ℕ, zero, suc, ◌+◌, ◌-◌, ◌*◌, ◌/◌, ◌%◌, ◌^◌, ◌<◌, ◌≤◌, List, [], ◌∷◌, ◌++◌, length, get_or, take, drop, sym, refl, ap, ◌∙◌, subst, ap₂, arith, lit<, length-drop, take-append-drop}
-use native.Mathlib.Nat.{pow-succ', pow-le-pow_right, div-div-eq-div-mul}
-use Rattle.std.proofs.lemmas.List.{take_at, drop_at, drop-drop, drop_more, length-take-le, drop-append-le, take-append-le}
+use Rattle.std.proofs.Common.{◌≡◌, ℕ, zero, suc, ◌+◌, ◌-◌, ◌*◌, ◌/◌, ◌%◌, ◌^◌, ◌<◌, ◌≤◌, List, [], ◌∷◌, ◌++◌, length, get_or, take, drop, replicate, w16, w64, sym, refl, ap, ◌∙◌, subst, ap₂, arith, lit<, length-append, length-drop, take-append-drop}
+use native.Mathlib.Nat.{pow-succ', div-div-eq-div-mul}
+use Rattle.std.specs.Int.{from_le_bytes}
+use Rattle.std.proofs.lemmas.Nat.{le_bytes_8}
+use Rattle.std.proofs.lemmas.List.{length-replicate, take_at, drop_at, drop-drop, length-take-le, drop-append-le, take-append-le}
 use Rattle.std.proofs.ByRecursion.{All-from_get_or, All-take, All-drop}
 use Rattle.lists.specs.Bytes.{le, number, value, Bytes}
 
@@ -57,21 +59,10 @@ value_at k v a p q h l =
 pub bytes_from_get_or : (bs : List ℕ) → ((i : ℕ) → get_or bs i 0 < 256) → Bytes bs
 bytes_from_get_or bs h = All-from_get_or (λ b. b < 256) bs 0 (λ i _. h i)
 
--- one more byte in front, as a loop from the highest byte down reads it
-pub number_more : (bs : List ℕ) (i : ℕ) → 0 < i → i ≤ length bs → number (drop i bs) * 256 + get_or bs (i - 1) 0 ≡ number (drop (i - 1) bs)
-number_more bs i h l =
-    let e : (i - 1) + 1 ≡ i = omega arith in
-    let d : drop (i - 1) bs ≡ get_or bs (i - 1) 0 ∷ drop ((i - 1) + 1) bs = drop_more bs (i - 1) 0 (omega arith) in
-    let f : drop (i - 1) bs ≡ get_or bs (i - 1) 0 ∷ drop i bs = rw e at d in
-    let g : number (drop (i - 1) bs) ≡ get_or bs (i - 1) 0 + 256 * number (drop i bs) = ap number f in
-    omega arith
-
-pub power_more : (n i : ℕ) → 0 < i → i ≤ n → 256 ^ (n - (i - 1)) ≡ 256 * 256 ^ (n - i)
-power_more n i h l = let e : n - (i - 1) ≡ suc (n - i) = omega arith in ap (λ k. 256 ^ k) e ∙ pow-succ' 256 (n - i)
-
--- fewer than eight bytes leave room for one more in 64 bits
-pub power_room : (n i : ℕ) → n ≤ 8 → 0 < i → 256 ^ (n - i) ≤ 256 ^ 7
-power_room n i h l = let e : n - i ≤ 7 = omega arith in pow-le-pow_right (lit< tt) {i = n - i} {j = 7} e
+get_or_bytes : (bs : List ℕ) → Bytes bs → (i : ℕ) → get_or bs i 0 < 256
+get_or_bytes [] h i = lit< tt
+get_or_bytes (b ∷ bs) h zero = h.0
+get_or_bytes (b ∷ bs) h (suc i) = get_or_bytes bs h.1 i
 
 -- what stands behind b does not change a field within b
 pub value_front : (k : ℕ) (b t : List ℕ) (a : ℕ) → a + k ≤ length b → value k (b ++ t) a ≡ value k b a
@@ -85,6 +76,32 @@ le_four n = simp div-div-eq-div-mul
 
 pub le_eight : (n : ℕ) → (n % 256) ∷ (n / 256 % 256) ∷ (n / 65536 % 256) ∷ (n / 16777216 % 256) ∷ (n / 4294967296 % 256) ∷ (n / 1099511627776 % 256) ∷ (n / 281474976710656 % 256) ∷ (n / 72057594037927936 % 256) ∷ [] ≡ le 8 n
 le_eight n = simp div-div-eq-div-mul
+
+pub number_two : (bs : List ℕ) → length bs ≡ 2 → from_le_bytes w16 bs ≡ number bs
+number_two [] l = absurd (omega arith)
+number_two (a ∷ []) l = absurd (omega arith)
+number_two (a ∷ b ∷ []) l = omega arith
+number_two (a ∷ b ∷ x ∷ xs) l = absurd (omega arith)
+
+-- zeros behind bytes add nothing to their number
+number_filled : (p : List ℕ) (k : ℕ) → number (p ++ replicate k 0) ≡ number p
+number_filled [] zero = refl
+number_filled [] (suc k) = omega (arith, number_filled [] k)
+number_filled (b ∷ p) k = ap (λ n. b + 256 * n) (number_filled p k)
+
+bytes_filled : (p : List ℕ) (k : ℕ) → Bytes p → Bytes (p ++ replicate k 0)
+bytes_filled [] zero h = tt
+bytes_filled [] (suc k) h = (lit< tt, bytes_filled [] k tt)
+bytes_filled (b ∷ p) k h = (h.0, bytes_filled p k h.1)
+
+-- what `from_le_bytes` reads from at most eight bytes with zeros behind them is their number
+pub number_padded : (p : List ℕ) (n : ℕ) → length p ≤ 8 → Bytes p → n < 2 ^ 64 → n ≡ from_le_bytes w64 (p ++ replicate (8 - length p) 0) → n ≡ number p
+number_padded p n l h g e =
+    let padded = p ++ replicate (8 - length p) 0 in
+    let long : length padded ≡ 8 = simp (length-append, length-replicate) (omega arith) in
+    sym (number_le 8 n g)
+    ∙ ap number (sym (le_eight n) ∙ le_bytes_8 padded n long (get_or_bytes padded (bytes_filled p (8 - length p) h)) e)
+    ∙ number_filled p (8 - length p)
 
 -- a field behind p is a field of what stands behind it
 pub value_past : (k n a : ℕ) (p q : List ℕ) → length p ≡ n → value k (p ++ q) (n + a) ≡ value k q a

@@ -1,5 +1,5 @@
 -- Judgements one after another, and the first fault among several places.
-use Rattle.std.proofs.Common.{◌≡◌, ℕ, zero, suc, ◌+◌, ◌-◌, ◌<◌, ◌≤◌, Bool, true, false, Ok, Err, Result, refl, ap, ◌∙◌, ⊎_elim, arith}
+use Rattle.std.proofs.Common.{◌≡◌, ℕ, zero, suc, ◌+◌, ◌-◌, ◌<◌, ◌≤◌, Bool, true, false, Ok, Err, Result, refl, ap, ◌∙◌, ap₂, ⊎_elim, arith}
 use Rattle.std.proofs.lemmas.Bool.{cases_eq}
 use Rattle.lists.specs.Places.{demand, then, first_fault}
 
@@ -54,3 +54,28 @@ fault_here judge end at f l h =
     let e : end - at ≡ suc (end - (at + 1)) = omega arith in
     ap (λ n. first_fault judge n at) e
     ∙ ap (λ r. then r (first_fault judge (end - (at + 1)) (suc at))) h
+
+-- where each place before at + n is judged well, the first fault is that from there on
+pub fault_skip : {F : Type 0} (judge : ℕ → Result (Unit {0}) F) (n left at : ℕ) → ((k : ℕ) → at ≤ k → k < at + n → judge k ≡ Ok tt) → first_fault judge (n + left) at ≡ first_fault judge left (at + n)
+unfolding first_fault
+fault_skip judge zero left at h =
+    let e : 0 + left ≡ left = omega arith in
+    let f : at ≡ at + 0 = omega arith in
+    ap₂ (first_fault judge) e f
+fault_skip judge (suc n) left at h =
+    let d : suc n + left ≡ suc (n + left) = omega arith in
+    let e : suc at + n ≡ at + suc n = omega arith in
+    ap (λ m. first_fault judge m at) d
+    ∙ ap (λ r. then r (first_fault judge (n + left) (suc at))) (h at (omega arith) (omega arith))
+    ∙ fault_skip judge n left (suc at) (λ k l m. h k (omega arith) (omega arith))
+    ∙ ap (first_fault judge left) e
+
+-- the first place that is not judged well gives the fault
+pub fault_first : {F : Type 0} (judge : ℕ → Result (Unit {0}) F) (end at i : ℕ) (f : F) → at ≤ i → i < end → ((k : ℕ) → at ≤ k → k < i → judge k ≡ Ok tt) → judge i ≡ Err f → first_fault judge (end - at) at ≡ Err f
+fault_first judge end at i f l m h e =
+    let split : end - at ≡ (i - at) + (end - i) = omega arith in
+    let here : at + (i - at) ≡ i = omega arith in
+    ap (λ n. first_fault judge n at) split
+    ∙ fault_skip judge (i - at) (end - i) at (λ k low high. h k low (omega arith))
+    ∙ ap (first_fault judge (end - i)) here
+    ∙ fault_here judge end i f m e

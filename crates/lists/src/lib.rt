@@ -2,7 +2,7 @@
 #![tactic(auto)]
 
 ghost use Rattle.std.specs.Prelude.{◌≡◌, ◌+◌, ◌^◌, ◌<◌, ◌≤◌, length};
-ghost use Rattle.lists.specs.Bytes.{number, value};
+ghost use Rattle.lists.specs.Bytes.{value};
 ghost use Rattle.lists.specs.Writes.{over};
 
 // Writes `bytes` over the part of `block` from `at` on.
@@ -13,27 +13,14 @@ pub fn put(block: &mut [u8], at: usize, bytes: &[u8])
     block[at..at + bytes.len()].copy_from_slice(bytes);
 }
 
-// The number that at most eight bytes write, the lowest first.
-fn number_of(bytes: &[u8]) -> u64
-    requires { length bytes.now ≤ 8 }
-    ensures value { result ≡ number bytes.now }
-    ensures below { result < 256 ^ length bytes.now }
-{
-    let mut sum = 0;
-    let mut left = bytes.len();
-    while left > 0 {
-        left -= 1;
-        sum = sum * 256 + bytes[left] as u64;
-    }
-    sum
-}
-
-// The number that stands in the `width` bytes of `block` from `at` on.
+// The number that stands in the `width` bytes of `block` from `at` on, the lowest first.
 pub fn field(block: &[u8], at: usize, width: usize) -> u64
     requires within { at + width ≤ length block.now }
     requires narrow { width ≤ 8 }
     ensures value { result ≡ value width block.now at }
     ensures below { result < 256 ^ width }
 {
-    number_of(&block[at..at + width])
+    let mut bytes = [0; 8];
+    bytes[..width].copy_from_slice(&block[at..at + width]);
+    u64::from_le_bytes(bytes)
 }

@@ -1,23 +1,20 @@
-use Rattle.std.proofs.Common.{eqb, get_or, Ok, sym, ◌∙◌}
-use Rattle.std.proofs.lemmas.Bool.{eq-eqb, ne_eqb}
-use Rattle.lists.proofs.Failing.{demand_holds, demand_fails, fault_more, fault_here, fault_none}
-use Rattle.blockfile.specs.declared.fault.Flaw.TheVariants.{Unused}
-use Rattle.blockfile.specs.Judging.{byte_judged}
+use Rattle.std.proofs.Common.{◌≡◌, get_or, sym, rules, tests}
+use Rattle.std.proofs.lemmas.Iterator.{first_from_Range}
+use Rattle.blockfile.proofs.Unused.{unused_none, unused_some}
 use Rattle.blockfile.proofs.block.check_unused.Goals as goal
 
-pub returns-then-block-i-ne0 : goal.returns-then-block-i-ne0
-returns-then-block-i-ne0 c =
+pub returns-in-None : goal.returns-in-None
+returns-in-None c =
     let b = c.args.block.now in
-    let i = c.loop-i.i in
-    sym (c.loop-i.invariant ∙ fault_here (byte_judged b) 508 i (Unused i) c.loop-i-test.true
-    (demand_fails (eqb (get_or b i 0) 0) (Unused i) (Ok tt) (ne_eqb (get_or b i 0) 0 c.if-block-i-ne0.true)))
+    sym (unused_none b c.args.start c.find.result
+    (first_from_Range _ _ _ c.find.result (λ k. get_or b k 0 ≡ 0 → ⊥) (λ k. get_or b k 0 ≡ 0) c.find.ensures.ran
+    (λ x q k. search (rules, tests)) (λ x q k. search (rules, tests)))
+    c.in-None.is)
 
-pub loop-i-preserved : goal.loop-i-preserved
-loop-i-preserved c =
+pub returns-in-Some : goal.returns-in-Some
+returns-in-Some c =
     let b = c.args.block.now in
-    let i = c.loop-i.i in
-    c.loop-i.invariant ∙ fault_more (byte_judged b) 508 i c.loop-i-test.true
-    (demand_holds (eqb (get_or b i 0) 0) (Unused i) (Ok tt) (eq-eqb (get_or b i 0) 0 c.if-block-i-ne0.false))
-
-pub returns : goal.returns
-returns c = sym (c.loop-i.invariant ∙ fault_none (byte_judged c.args.block.now) 508 c.loop-i.i c.loop-i-test.false)
+    sym (unused_some b c.args.start c.find.result c.in-Some.at
+    (first_from_Range _ _ _ c.find.result (λ k. get_or b k 0 ≡ 0 → ⊥) (λ k. get_or b k 0 ≡ 0) c.find.ensures.ran
+    (λ x q k. search (rules, tests)) (λ x q k. search (rules, tests)))
+    c.in-Some.is)

@@ -7,15 +7,15 @@ use Rattle.blockfile.specs.Blocks.{entry_of}
 use Rattle.blockfile.proofs.Building.{entries_more}
 use Rattle.blockfile.proofs.block.put_rows.Goals as goal
 
-pub loop-i-preserved : goal.loop-i-preserved
-loop-i-preserved c =
-    let i = c.loop-i.i in
+pub loop-place-preserved : goal.loop-place-preserved
+loop-place-preserved c =
+    let i = c.loop-place.place in
     let row = get_or c.args.rows.now i blank_row in
     c.put_row.ensures
-    ∙ ap (λ b. over b (8 + 12 * i) (entry_of row)) c.loop-i.invariant
-    ∙ entries_more c.args.block.now c.args.rows.now i row (omega arith) c.loop-i-test.true refl
+    ∙ ap (λ b. over b (8 + 12 * i) (entry_of row)) c.loop-place.invariant
+    ∙ entries_more c.args.block.now c.args.rows.now i row (omega arith) c.loop-place-test.true refl
 
 pub returns : goal.returns
 returns c =
-    c.loop-i.invariant
-    ∙ ap (λ rows. over c.args.block.now 8 (flat_map entry_of rows)) (take_all c.loop-i.i c.args.rows.now c.loop-i-test.false)
+    c.loop-place.invariant
+    ∙ ap (λ rows. over c.args.block.now 8 (flat_map entry_of rows)) (take_all c.loop-place.place c.args.rows.now c.loop-place-test.false)

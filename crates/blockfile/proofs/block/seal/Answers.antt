@@ -12,4 +12,4 @@ returns c =
     in
     c.put-2.ensures
     ∙ ap₂ (λ b s. over b 510 s) first (c.to_le_bytes-2.ensures ∙ ap (le 2) c.checks-first.ensures.second)
-    ∙ sealed_is c.args.block.now c.requires
+    ∙ sealed_is c.args.block.now c.told-block

@@ -1,8 +1,12 @@
-use Rattle.std.proofs.Common.{◌*◌, length, ap, ◌∙◌}
-use Rattle.lists.proofs.Cuts.{part_is, length_part}
+use Rattle.std.proofs.Common.{◌≡◌, ◌*◌, ◌/◌, length, [], get_or, take, drop, ap, ◌∙◌, arith}
+use Rattle.lists.proofs.Cuts.{get_or-first_chunks}
 use Rattle.blockfile.proofs.file.block_of.Goals as goal
 
 pub returns : goal.returns
 returns c =
-    let part = part_is 512 (c.args.k * 512) c.args.file.now in
-    record { bytes = part; long = ap length part ∙ length_part 512 (c.args.k * 512) c.args.file.now c.requires }
+    let file = c.args.file.now in
+    let k = c.args.k in
+    let place : 512 * k ≡ k * 512 = omega arith in
+    ap (λ blocks. get_or blocks k []) c.as_chunks.ensures.front
+    ∙ get_or-first_chunks 512 (length file / 512) file k [] (omega arith)
+    ∙ ap (λ at. take 512 (drop at file)) place

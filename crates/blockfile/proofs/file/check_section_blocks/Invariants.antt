@@ -5,6 +5,6 @@ use Rattle.blockfile.proofs.file.check_section_blocks.Given as goal
 
 abbrev pub invariant-loop-j : goal.invariant-loop-j
 invariant-loop-j g l =
-    sections_of_file_judged l.n g.N.Numbers.readable l.code l.file
-    ≡ first_fault (block_judged l.n g.N.Numbers.readable l.code l.file (total_in l.file))
+    sections_of_file_judged l.reader.n g.N.Numbers.readable l.reader.code l.file
+    ≡ first_fault (block_judged l.reader.n g.N.Numbers.readable l.reader.code l.file (total_in l.file))
     ((length l.file / 512 - 1) - l.j) l.j

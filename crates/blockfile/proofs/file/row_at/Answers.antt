@@ -9,5 +9,5 @@ pub returns : goal.returns
 returns c =
     let file = c.args.file.now in
     let i = c.args.i in
-    let place : c.row_in.result ≡ row_of file i = c.row_in.ensures ∙ ap (λ b. row_in b (i % 41)) c.block_of.ensures.bytes in
+    let place : c.row_in.result ≡ row_of file i = c.row_in.ensures ∙ ap (λ b. row_in b (i % 41)) c.block_of.ensures in
     record { place = place; listed = λ h. place ∙ sym (row_is file i blank_row (omega (arith, length_rows file))) }

@@ -1,5 +1,4 @@
 use Rattle.std.proofs.Common.{◌≡◌, ◌+◌, ◌*◌, true, leb, length, Ok, Err, sym, ap, ◌∙◌, arith}
-use borrow.Rule.Slice.PartMut.{put_mid}
 use Rattle.std.proofs.lemmas.Bool.{and_from, le-leb, cond-true}
 use Rattle.lists.specs.Writes.{over}
 use Rattle.blockfile.specs.declared.fault.FileFault.TheVariants.{Length}
@@ -19,8 +18,8 @@ returns c =
     in
     let written : c.write_section_blocks.new.buffer ≡ over d 0 (file_of c.args.n c.args.code rows) =
     c.write_section_blocks.ensures
-    ∙ ap (λ h. over (put_mid 0 512 d h) 512 (section_part c.args.code rows (blocks_for (length rows)))) c.write_header.ensures
-    ∙ file_over c.args.n c.args.code d rows (omega arith)
+    ∙ ap (λ b. over b 512 (section_part c.args.code rows (blocks_for (length rows)))) (c.put.ensures ∙ ap (over d 0) c.header.ensures)
+    ∙ file_over c.args.n c.args.code d rows
     in
     record {
       answer =

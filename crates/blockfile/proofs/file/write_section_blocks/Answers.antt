@@ -1,15 +1,49 @@
-use Rattle.std.proofs.Common.{◌+◌, sym, ap, ◌∙◌, arith, take-append-drop}
+use Rattle.std.proofs.Common.{◌≡◌, ◌+◌, ◌*◌, length, drop, sym, ap, ap₂, ◌∙◌, arith, take-append-drop, length-drop}
+use Rattle.lists.specs.Writes.{over}
 use Rattle.blockfile.specs.Blocks.{section_block}
+use Rattle.blockfile.specs.Judging.{blocks_for}
 use Rattle.blockfile.specs.Files.{section_part}
-use Rattle.blockfile.proofs.Chunks.{blocks_more}
+use Rattle.blockfile.proofs.Chunks.{blocks_more, next_chunk}
 use Rattle.blockfile.proofs.file.write_section_blocks.Goals as goal
 
 pub loop-j-init : goal.loop-j-init
 unfolding section_part
-loop-j-init c = sym (take-append-drop 512 c.args.buffer.now)
+loop-j-init c =
+    let d = c.args.buffer.now in
+    let rows = c.args.rows.now in
+    let count : c.into_iter-j-iterator.result.count ≡ 0 = cc in
+    let rest : c.into_iter-j-iterator.result.iter.rest.now ≡ rows = cc in
+    record {
+      size = cc;
+      rest = rest ∙ ap (λ k. drop (41 * k) rows) (sym count);
+      count = omega arith;
+      buffer = sym (ap (λ k. over d 512 (section_part c.args.code rows k)) count ∙ take-append-drop 512 d);
+    }
 
 pub loop-j-preserved : goal.loop-j-preserved
 loop-j-preserved c =
-    blocks_more c.args.buffer.now c.args.code c.args.rows.now c.loop-j.j _ c.loop-j.buffer c.write_sections.new.out
-    (omega arith) (omega arith) c.loop-j.invariant
-    (c.write_sections.ensures ∙ ap (section_block c.args.code (c.loop-j.j + 1)) c.chunk_of.ensures.rows)
+    let steps = c.in-Some.ensures.steps in
+    let d = c.args.buffer.now in
+    let code = c.args.code in
+    let rows = c.args.rows.now in
+    let now = c.loop-j.j-iterator in
+    let j = now.count in
+    let next = next_chunk rows j now.iter.size now.iter.rest.now c.in-Some.rows.now c.next.new.self.iter.rest.now c.loop-j.invariant.size c.loop-j.invariant.rest steps.0.1.0 steps.0.1.1 in
+    let block = c.section_block.ensures ∙ ap₂ (λ k part. section_block code (k + 1) part) steps.1 next.taken in
+    record {
+      size = steps.0.0 ∙ c.loop-j.invariant.size;
+      rest = next.left ∙ ap (λ k. drop (41 * k) rows) (sym steps.2);
+      count = omega (arith, ap length c.loop-j.invariant.rest, length-drop (41 * j) rows);
+      buffer = c.put.ensures
+          ∙ ap (λ k. over c.loop-j.buffer ((k + 1) * 512) c.section_block.result) steps.1
+          ∙ blocks_more d code rows j c.loop-j.buffer c.section_block.result (omega arith) c.loop-j.invariant.buffer block
+          ∙ ap (λ k. over d 512 (section_part code rows k)) (sym steps.2);
+    }
+
+pub returns : goal.returns
+returns c =
+    let rows = c.args.rows.now in
+    let steps = c.in-None.ensures.steps in
+    let j = c.loop-j.j-iterator.count in
+    let all : j ≡ blocks_for (length rows) = omega (arith, ap length c.loop-j.invariant.rest, length-drop (41 * j) rows) in
+    c.loop-j.invariant.buffer ∙ ap (λ k. over c.args.buffer.now 512 (section_part c.args.code rows k)) all
