@@ -1,11 +1,12 @@
 -- An accepted file is the written file of its rows, and its rows are fit.
 use Rattle.std.proofs.Common.{◌≡◌, ℕ, zero, suc, ◌+◌, ◌-◌, ◌*◌, ◌/◌, ◌%◌, ◌<◌, ◌≤◌, min, Bool, true, List, ◌++◌, length, get_or, take, drop, IfOk, Some, Ok, Err, Result, sym, ap, ◌∙◌, subst, ap₂, append_assoc, arith}
+use Rattle.std.proofs.Math.Seq.{take-add}
 use Rattle.std.proofs.lemmas.List.{take_all, append-nil, same_lists, get_or-take, get_or-drop}
 use Rattle.std.proofs.lemmas.List.FromFn.{get_or-map-range_with_len, length-map-range_with_len}
 use Rattle.std.proofs.ByRecursion.{All-take, All-drop}
 use Rattle.lists.specs.Bytes.{Bytes}
 use Rattle.lists.proofs.Digits.{value_lt}
-use Rattle.lists.proofs.Cuts.{take_add, length_part}
+use Rattle.lists.proofs.Cuts.{length_part}
 use Rattle.blockfile.specs.declared.row.Row.{Row}
 use Rattle.blockfile.specs.declared.fault.FileFault.{FileFault}
 use Rattle.blockfile.specs.Laws.{Accepted}
@@ -77,7 +78,7 @@ module _ (n : ℕ) (readable : ℕ → Bool) (code : ℕ) (file : List ℕ) (tot
       ∙ ap (section_block code (j + 1)) (sym (chunk_is file j))
       in
       ap (λ k. take k file) next
-      ∙ take_add (512 + 512 * j) 512 file
+      ∙ take-add (512 + 512 * j) 512 file
       ∙ ap₂ (λ x y. x ++ y) (blocks_are j (omega arith)) (ap (λ k. take 512 (drop k file)) place ∙ block)
       ∙ append_assoc (header n code (total_in file)) (section_part code (rows_of file) j) (section_block code (j + 1) (chunk j (rows_of file)))
 

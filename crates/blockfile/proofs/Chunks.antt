@@ -1,12 +1,13 @@
 -- The section blocks of a file, one behind the other.
-use Rattle.std.proofs.Common.{◌≡◌, ℕ, zero, suc, ◌+◌, ◌-◌, ◌*◌, ◌<◌, ◌≤◌, min, List, ◌++◌, length, take, drop, Some, sym, refl, ap, ◌∙◌, ap₂, ⊎_elim, add-one, arith, length-append, length-drop, length-take}
+use Rattle.std.proofs.Common.{◌≡◌, ℕ, zero, suc, ◌+◌, ◌-◌, ◌*◌, ◌/◌, ◌<◌, ◌≤◌, min, List, [], ◌++◌, length, get_or, take, drop, Some, sym, refl, ap, ◌∙◌, ap₂, ⊎_elim, add-one, arith, length-append, length-drop, length-take}
 use Rattle.std.proofs.lemmas.Bool.{cases_lt}
-use Rattle.std.proofs.lemmas.List.{take_all, take_at, drop_at, drop-drop, take-append-le, drop-append-le}
+use Rattle.std.proofs.lemmas.List.{take_all, take_at, drop_at, drop-drop, take-append-le, drop-append-le, get_or-take, get_or-drop}
 use Rattle.lists.specs.Writes.{over}
-use Rattle.lists.proofs.Cuts.{take_short, drop_short}
+use Rattle.lists.proofs.Cuts.{length-first_chunks, get_or-first_chunks, take_short, drop_short}
 use Rattle.lists.proofs.Writing.{over_over}
 use Rattle.blockfile.specs.declared.row.Row.{Row}
 use Rattle.std.specs.List.{flat_map}
+use Rattle.std.specs.Simd.{first_chunks}
 use Rattle.lists.specs.Bytes.{le}
 use Rattle.blockfile.specs.Blocks.{front, header_front, header, section_front, entry_of, section_block, row_in}
 use Rattle.blockfile.specs.Judging.{blocks_for}
@@ -105,3 +106,36 @@ later_block n code rows j h =
     ap (λ k. take 512 (drop k (head ++ part))) place
     ∙ ap (take 512) (sym (drop-drop (512 * j) 512 (head ++ part)) ∙ ap (drop (512 * j)) (drop_at head part 512 (length_header n code (length rows))))
     ∙ part_block code rows (blocks_for (length rows)) j h
+
+-- a file cut into blocks
+pub block_is : (file : List ℕ) (k i : ℕ) → i < k → get_or (first_chunks 512 k file) i [] ≡ block_at i file
+block_is file k i h =
+    let place : 512 * i ≡ i * 512 = omega arith in
+    get_or-first_chunks 512 k file i [] h ∙ ap (λ at. take 512 (drop at file)) place
+
+-- the blocks behind the header, as a slice of all blocks
+abbrev pub behind_header : List (List ℕ) → List (List ℕ)
+behind_header blocks = take (length blocks - 1) (drop 1 blocks)
+
+pub length_behind : (file : List ℕ) (blocks : List (List ℕ)) → blocks ≡ first_chunks 512 (length file / 512) file → length (behind_header blocks) ≡ length file / 512 - 1
+length_behind file blocks e =
+    let count = length-first_chunks 512 (length file / 512) file in
+    simp (length-take, length-drop) (omega (arith, ap length e, count))
+
+-- a turn of a loop over them
+pub record SectionTurn (file : List ℕ) (blocks : List (List ℕ)) (j : ℕ) : Type 0 where
+  pub within : j < length file / 512 - 1
+  pub block : get_or (behind_header blocks) j [] ≡ block_at (j + 1) file
+
+pub at_turn : (file : List ℕ) (blocks : List (List ℕ)) (j : ℕ) → blocks ≡ first_chunks 512 (length file / 512) file → j < length (behind_header blocks) → SectionTurn file blocks j
+at_turn file blocks j e h =
+    let within : j < length file / 512 - 1 = omega (arith, length_behind file blocks e) in
+    let next : 1 + j ≡ j + 1 = omega arith in
+    let count = length-first_chunks 512 (length file / 512) file in
+    record {
+      within = within;
+      block = get_or-take (length blocks - 1) (drop 1 blocks) j [] (omega (arith, ap length e, count))
+          ∙ get_or-drop 1 blocks j []
+          ∙ ap₂ (λ bs i. get_or bs i []) e next
+          ∙ block_is file (length file / 512) (j + 1) (omega arith);
+    }

@@ -59,9 +59,9 @@ size_is len n code b w e =
     h.1 ∙ ap (λ k. 512 * k) (sym s)
 
 -- the judgement on a block or a record, at what the code has in its hands
-pub judged_alike : (n : ℕ) (readable : ℕ → Bool) (code : ℕ) (file : List ℕ) (j : ℕ) {k count : ℕ} {before : Option Row} {b : List ℕ} {r : Judged BlockFault} → k ≡ j + 1 → count ≡ count_in (total_in file) j → before ≡ before_block file j → b ≡ block_at (j + 1) file → r ≡ at_block k (sections_judged n readable code k count before b) → block_judged n readable code file (total_in file) j ≡ r
-judged_alike n readable code file j d e f g h =
-    sym (h ∙ (λ i. at_block (d i) (sections_judged n readable code (d i) (e i) (f i) (g i))))
+pub judged_alike : (n : ℕ) (readable : ℕ → Bool) (code : ℕ) (file : List ℕ) (j : ℕ) {count : ℕ} {before : Option Row} {b : List ℕ} {r : Judged BlockFault} → count ≡ count_in (total_in file) j → before ≡ before_block file j → b ≡ block_at (j + 1) file → r ≡ at_block (j + 1) (sections_judged n readable code (j + 1) count before b) → block_judged n readable code file (total_in file) j ≡ r
+judged_alike n readable code file j e f g h =
+    sym (h ∙ (λ i. at_block (j + 1) (sections_judged n readable code (j + 1) (e i) (f i) (g i))))
 
 pub good_alike : (n : ℕ) (readable : ℕ → Bool) (before : Option Row) (b : List ℕ) (place : ℕ) {last : Option Row} {row : Row} {r : Bool} → last ≡ row_before before b place → row ≡ row_in b place → r ≡ good_row n readable last row → good_row n readable (row_before before b place) (row_in b place) ≡ r
 good_alike n readable before b place e f h = sym (h ∙ (λ i. good_row n readable (e i) (f i)))

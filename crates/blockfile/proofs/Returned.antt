@@ -1,12 +1,13 @@
 -- What is written is accepted, and holds the same rows.
 use Rattle.std.proofs.Common.{◌≡◌, ℕ, ◌+◌, ◌-◌, ◌*◌, ◌^◌, ◌<◌, ◌≤◌, Bool, true, eqb, List, ◌∷◌, ◌++◌, length, get_or, take, drop, replicate, Ok, Option, sym, refl, ap, ◌∙◌, ap₂, append_assoc, arith}
 use Rattle.std.specs.List.{flat_map}
+use Rattle.std.proofs.lemmas.List.Concat.{flat_map-append}
 use Rattle.std.proofs.lemmas.Bool.{eq-eqb, and_from}
 use Rattle.std.proofs.lemmas.List.{get_or_append_left, get_or-append_right, get_or-replicate, length-take-le}
 use Rattle.lists.specs.Bytes.{le, value}
 use Rattle.lists.specs.Writes.{filled}
 use Rattle.lists.specs.Places.{then, first_fault}
-use Rattle.lists.proofs.Cuts.{joined_append, around}
+use Rattle.lists.proofs.Cuts.{around}
 use Rattle.lists.proofs.Digits.{number_le, value_at, value_past}
 use Rattle.lists.proofs.Failing.{demand_holds, all_well}
 use Rattle.lists.proofs.Writing.{length_filled}
@@ -99,7 +100,7 @@ row_returns code k rows p h s =
     let before = start ++ flat_map entry_of (take p rows) in
     let behind = (flat_map entry_of (drop (p + 1) rows) ++ zeros) ++ tail in
     let entries : flat_map entry_of rows ≡ flat_map entry_of (take p rows) ++ (entry_of r ++ flat_map entry_of (drop (p + 1) rows)) =
-    ap (flat_map entry_of) (around rows p blank_row h) ∙ joined_append entry_of (take p rows) (r ∷ drop (p + 1) rows)
+    ap (flat_map entry_of) (around rows p blank_row h) ∙ flat_map-append entry_of (take p rows) (r ∷ drop (p + 1) rows)
     in
     let split : section_block code k rows ≡ before ++ (entry_of r ++ behind) =
     ap (λ z. ((start ++ z) ++ zeros) ++ tail) entries

@@ -1,12 +1,13 @@
 -- An accepted block is the written block of what stands in it.
 use Rattle.std.proofs.Common.{◌≡◌, ℕ, zero, suc, ◌+◌, ◌-◌, ◌*◌, ◌<◌, ◌≤◌, Bool, true, eqb, List, [], ◌∷◌, ◌++◌, map, length, get_or, take, drop, replicate, Ok, Option, sym, refl, ap, ◌∙◌, ap₂, append_assoc, add-one, arith, take-append-drop}
 use Rattle.std.specs.List.{range_with_len, flat_map}
+use Rattle.std.proofs.Math.Seq.{take-add}
 use Rattle.std.proofs.lemmas.Bool.{eqb-true, and_parts}
 use Rattle.std.proofs.lemmas.List.{drop_more, drop_all, append-nil, drop-drop, get_or-drop, get_or-take, flat_map_more}
 use Rattle.std.proofs.lemmas.List.FromFn.{map-range_with_len_more, length-map-range_with_len}
 use Rattle.lists.specs.Bytes.{le, value, Bytes}
 use Rattle.lists.specs.Writes.{filled}
-use Rattle.lists.proofs.Cuts.{zeros_are, take_add, length_part}
+use Rattle.lists.proofs.Cuts.{zeros_are, length_part}
 use Rattle.lists.proofs.Digits.{field_cut}
 use Rattle.lists.proofs.Failing.{demand_ok, none_at}
 use Rattle.blockfile.specs.declared.block.Front.{Front}
@@ -75,7 +76,7 @@ blank_since b e l g h u =
     let long : length rest ≡ 508 - e = ap (λ x. length (take (508 - e) x)) same ∙ length_part (508 - e) e b (omega arith) in
     let split : 500 ≡ (e - 8) + (508 - e) = omega arith in
     ap (λ n. take n (drop 8 b)) split
-    ∙ take_add (e - 8) (508 - e) (drop 8 b)
+    ∙ take-add (e - 8) (508 - e) (drop 8 b)
     ∙ ap (λ z. take (e - 8) (drop 8 b) ++ z) (zeros_are rest (508 - e) long each)
 
 -- a block that was accepted so far, whose fields end at e, is the block that is written from them
@@ -123,7 +124,7 @@ entries_since b (suc c) h l =
     let twelve : 12 * suc c ≡ 12 * c + 12 = omega arith in
     let more : rows_in b (suc c) ≡ rows_in b c ++ row_in b c ∷ [] = ap (rows_in b) (sym (add-one c)) ∙ map-range_with_len_more (row_in b) 0 c c (omega arith) in
     ap (λ n. take n (drop 8 b)) twelve
-    ∙ take_add (12 * c) 12 (drop 8 b)
+    ∙ take-add (12 * c) 12 (drop 8 b)
     ∙ ap₂ (λ x y. x ++ y) (entries_since b c h (omega arith)) (ap (take 12) (drop-drop (12 * c) 8 b) ∙ entry_since b c h (omega arith))
     ∙ flat_map_more entry_of [] (rows_in b c) (row_in b c)
     ∙ ap (flat_map entry_of) (sym more)

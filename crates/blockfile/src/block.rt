@@ -1,4 +1,5 @@
 // The block layer: 512 bytes with a front, fields or records, and two check sums.
+// Each `as` keeps its number, which the check proves; `try_from` would add an error that never comes.
 
 ghost use Rattle.std.specs.Prelude.{◌≡◌, ◌+◌, ◌*◌, ◌<◌, ◌≤◌, length, take};
 ghost use Rattle.std.specs.List.{flat_map};
@@ -216,16 +217,16 @@ pub(crate) struct Place {
 // What the reader expects of a whole file: its number of stations and its measure.
 #[derive(Clone, Copy)]
 pub(crate) struct Reader {
-    pub(crate) n: usize,
+    pub(crate) stations: usize,
     pub(crate) code: u8,
 }
 
 impl Reader {
     // Judges the number of stations, and then the total against the number of blocks.
     fn check_sizes(self, block: &Block, blocks: usize) -> Result<(), Flaw>
-        ensures { result ≡ sizes_judged self.n blocks block.now }
+        ensures { result ≡ sizes_judged self.stations blocks block.now }
     {
-        if field(block, 8, 2) != self.n as u64 {
+        if field(block, 8, 2) != self.stations as u64 {
             return Err(Flaw::Stations);
         }
         if 1 + section_blocks(field(block, 10, 4) as usize) != blocks {
@@ -235,7 +236,7 @@ impl Reader {
     }
 
     fn judge_header(self, block: &Block, blocks: usize) -> Result<(), Flaw>
-        ensures { result ≡ header_judged self.n self.code blocks block.now }
+        ensures { result ≡ header_judged self.stations self.code blocks block.now }
     {
         Front::of_header(self.code).check(block)?;
         self.check_sizes(block, blocks)?;
@@ -244,7 +245,7 @@ impl Reader {
 
     // Judges the header of a file of that many blocks.
     pub(crate) fn check_header(self, block: &Block, blocks: usize) -> Result<(), BlockFault>
-        ensures { result ≡ at_block 0 (header_judged self.n self.code blocks block.now) }
+        ensures { result ≡ at_block 0 (header_judged self.stations self.code blocks block.now) }
     {
         self.judge_header(block, blocks)
             .map_err(|flaw| BlockFault { block: 0, flaw })
@@ -252,16 +253,16 @@ impl Reader {
 
     // A row is good: two stations, lower first, a number that reads back, and behind the row before it.
     fn is_good<N: Numbers>(self, row: Row, before: Option<Row>) -> bool
-        ensures { result ≡ good_row self.n N.Numbers.readable before row }
+        ensures { result ≡ good_row self.stations N.Numbers.readable before row }
     {
         let follows = before.is_none_or(|last| last.is_ahead_of(row));
         let readable = N::is_readable(row.number);
-        row.low < row.high && usize::from(row.high) < self.n && readable && follows
+        row.low < row.high && usize::from(row.high) < self.stations && readable && follows
     }
 
     // Judges the records in order; the number of a place names its bytes.
     fn check_records<N: Numbers>(self, block: &Block, place: Place) -> Result<(), Flaw>
-        ensures { result ≡ first_fault (record_judged self.n N.Numbers.readable place.before block.now) place.count 0 }
+        ensures { result ≡ first_fault (record_judged self.stations N.Numbers.readable place.before block.now) place.count 0 }
     {
         let mut last = place.before;
         for i in 0..usize::from(place.count) {
@@ -275,7 +276,7 @@ impl Reader {
     }
 
     fn judge_sections<N: Numbers>(self, block: &Block, place: Place) -> Result<(), Flaw>
-        ensures { result ≡ sections_judged self.n N.Numbers.readable self.code place.number place.count place.before block.now }
+        ensures { result ≡ sections_judged self.stations N.Numbers.readable self.code place.number place.count place.before block.now }
     {
         Front::of_sections(place.number, place.count, self.code).check(block)?;
         check_unused(block, 8 + 12 * usize::from(place.count))?;
@@ -288,7 +289,7 @@ impl Reader {
         block: &Block,
         place: Place,
     ) -> Result<(), BlockFault>
-        ensures { result ≡ at_block place.number (sections_judged self.n N.Numbers.readable self.code place.number place.count place.before block.now) }
+        ensures { result ≡ at_block place.number (sections_judged self.stations N.Numbers.readable self.code place.number place.count place.before block.now) }
     {
         let number = place.number as usize;
         self.judge_sections::<N>(block, place)

@@ -3,7 +3,7 @@
 ghost use Rattle.std.specs.Prelude.{◌≡◌, ◌+◌, ◌*◌, ◌/◌, ◌^◌, ◌<◌, ◌≤◌, true, length, take, IfOk, if◌then◌else◌, Ok, Err, slice_index_or};
 ghost use Rattle.lists.specs.Writes.{over};
 ghost use Rattle.blockfile.specs.Judging.{blocks_for};
-ghost use Rattle.blockfile.specs.Files.{chunk, section_part, file_of, file_size, whole_blocks, has_room, block_at, total_in, row_of, rows_of, count_in, before_block, sections_of_file_judged, file_judged};
+ghost use Rattle.blockfile.specs.Files.{chunk, section_part, file_of, file_size, whole_blocks, has_room, block_at, total_in, row_of, rows_of, sections_of_file_judged, file_judged};
 ghost use Rattle.blockfile.specs.Laws.{ReadsBack, Accepted};
 ghost use Rattle.blockfile.specs.Rows.{blank_row};
 
@@ -72,31 +72,24 @@ fn total_of(file: &[u8]) -> usize
     field(block_of(file, 0), 10, 4) as usize
 }
 
-// The place of section block `j + 1` in a file with that total: all blocks before it are full.
-fn place_of(file: &[u8], total: usize, j: usize) -> Place
-    requires full { 41 * j ≤ total }
-    requires within { j * 512 + 512 ≤ length file.now }
-    requires small { j + 1 < 2 ^ 32 }
-    ensures number { result.number ≡ j + 1 }
-    ensures count { result.count ≡ count_in total j }
-    ensures before { result.before ≡ before_block file.now j }
-{
-    let before = (j > 0).then(|| row_in(block_of(file, j), RECORDS - 1));
-    Place {
-        number: (j + 1) as u32,
-        count: (total - RECORDS * j).min(RECORDS) as u16,
-        before,
-    }
-}
-
 // Judges the section blocks in order; the header was accepted before, so the total fits the length.
+// All blocks but the last are full, so the row before a block is the last of the block before it.
 fn check_section_blocks<N: Numbers>(reader: Reader, file: &[u8]) -> Result<(), BlockFault>
     requires { length file.now ≡ file_size (total_in file.now) }
-    ensures { result ≡ sections_of_file_judged reader.n N.Numbers.readable reader.code file.now }
+    ensures { result ≡ sections_of_file_judged reader.stations N.Numbers.readable reader.code file.now }
 {
-    let total = total_of(file);
-    for j in 0..section_blocks(total) {
-        reader.check_sections::<N>(block_of(file, j + 1), place_of(file, total, j))?;
+    let mut left = total_of(file);
+    let mut before = None;
+    for (j, block) in file.as_chunks().0[1..].iter().enumerate() {
+        let count = left.min(RECORDS);
+        let place = Place {
+            number: j as u32 + 1,
+            count: count as u16,
+            before,
+        };
+        reader.check_sections::<N>(block, place)?;
+        left -= count;
+        before = Some(row_in(block, RECORDS - 1));
     }
     Ok(())
 }
@@ -104,7 +97,7 @@ fn check_section_blocks<N: Numbers>(reader: Reader, file: &[u8]) -> Result<(), B
 // A fault of a block becomes one of the file by `?`.
 fn check_blocks<N: Numbers>(reader: Reader, file: &[u8]) -> Result<usize, FileFault>
     requires { whole_blocks (length file.now) ≡ true }
-    ensures { result ≡ file_judged reader.n N.Numbers.readable reader.code file.now }
+    ensures { result ≡ file_judged reader.stations N.Numbers.readable reader.code file.now }
 {
     reader.check_header(block_of(file, 0), file.len() / BLOCK)?;
     check_section_blocks::<N>(reader, file)?;
@@ -119,7 +112,7 @@ pub fn check_file<N: Numbers>(file: &[u8], n: usize, code: u8) -> Result<usize, 
     if !is_whole(file.len()) {
         return Err(FileFault::Length);
     }
-    check_blocks::<N>(Reader { n, code }, file)
+    check_blocks::<N>(Reader { stations: n, code }, file)
 }
 
 // Row `i` of a file that was accepted, read in place.

@@ -1,8 +1,7 @@
 -- Parts of lists.
 use Rattle.std.proofs.Common.{◌≡◌, ℕ, zero, suc, ◌+◌, ◌-◌, ◌*◌, ◌<◌, ◌≤◌, min, List, [], ◌∷◌, ◌++◌, length, get_or, take, drop, replicate, sym, refl, ap, ◌∙◌, ⊎_elim, append_assoc, arith, length-drop, take-append-drop}
 use native.Mathlib.Nat.{mul-suc}
-use Rattle.std.proofs.lemmas.List.{length-replicate}
-use Rattle.std.proofs.lemmas.List.{take_all, drop_all, drop-drop, drop-take, take-take, length-take-le, ext_get_or, get_or-replicate, drop_more}
+use Rattle.std.proofs.lemmas.List.{length-replicate, take_all, drop_all, drop-drop, drop-take, take-take, length-take-le, ext_get_or, get_or-replicate, drop_more}
 use Rattle.std.specs.List.{flat_map}
 use Rattle.std.specs.Simd.{first_chunks}
 use Rattle.std.proofs.lemmas.Bool.{cases_lt}
@@ -29,26 +28,19 @@ drop_short k xs =
     (λ (h : k ≤ length xs). let e : min (length xs) k ≡ k = omega arith in ap (λ n. drop n xs) e)
     (cases_lt (length xs) k)
 
--- the first n + k elements are the first n and the k behind them
-pub take_add : {X : Type 0} (n k : ℕ) (xs : List X) → take (n + k) xs ≡ take n xs ++ take k (drop n xs)
-take_add n k xs =
-    sym (take-append-drop n (take (n + k) xs))
-    ∙ ap (λ z. z ++ drop n (take (n + k) xs)) (take-take n (n + k) xs (omega arith))
-    ∙ ap (λ z. take n xs ++ z) (drop-take n k xs)
-
 -- where every element is zero the list is blank
 pub zeros_are : (xs : List ℕ) (n : ℕ) → length xs ≡ n → ((i : ℕ) → i < n → get_or xs i 0 ≡ 0) → xs ≡ replicate n 0
 zeros_are xs n l h =
     ext_get_or 0 xs (replicate n 0) (l ∙ sym (length-replicate n 0))
     (λ i k. h i (omega arith) ∙ sym (get_or-replicate n i 0 0 (omega arith)))
 
-pub joined_append : {X A : Type 0} (f : X → List A) (xs ys : List X) → flat_map f (xs ++ ys) ≡ flat_map f xs ++ flat_map f ys
-joined_append f [] ys = refl
-joined_append f (x ∷ xs) ys = ap (λ z. f x ++ z) (joined_append f xs ys) ∙ sym (append_assoc (f x) (flat_map f xs) (flat_map f ys))
-
 -- a list around one of its elements
 pub around : {X : Type 0} (xs : List X) (i : ℕ) (d : X) → i < length xs → xs ≡ take i xs ++ get_or xs i d ∷ drop (i + 1) xs
 around xs i d h = sym (take-append-drop i xs) ∙ ap (λ z. take i xs ++ z) (drop_more xs i d h)
+
+pub length-first_chunks : {X : Type 0} (n k : ℕ) (xs : List X) → length (first_chunks n k xs) ≡ k
+length-first_chunks n zero xs = refl
+length-first_chunks n (suc k) xs = ap suc (length-first_chunks n k (drop n xs))
 
 -- one of the chunks of n elements that a list is cut into
 pub get_or-first_chunks : {X : Type 0} (n k : ℕ) (xs : List X) (i : ℕ) (d : List X) → i < k → get_or (first_chunks n k xs) i d ≡ take n (drop (n * i) xs)

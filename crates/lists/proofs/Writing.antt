@@ -1,8 +1,7 @@
 -- Writes over a part of a list.
 use Rattle.std.proofs.Common.{◌≡◌, ℕ, ◌+◌, ◌-◌, ◌≤◌, List, ◌++◌, length, take, drop, replicate, sym, ap, ◌∙◌, ap₂, append_assoc, arith, length-append}
-use lib.ListN.{length-replicate}
 use borrow.Rule.Slice.PartMut.{put_mid}
-use Rattle.std.proofs.lemmas.List.{take_at, drop_at, drop-drop, length-take-le, drop-replicate, replicate-append-replicate, drop_all, append-nil}
+use Rattle.std.proofs.lemmas.List.{length-replicate, take_at, drop_at, drop-drop, length-take-le, drop-replicate, replicate-append-replicate, drop_all, append-nil}
 use Rattle.lists.specs.Writes.{over, filled}
 
 -- what a write to the part of k elements from a on leaves
