@@ -1,4 +1,4 @@
-use Rattle.std.proofs.Common.{◌≡◌, ◌+◌, ◌-◌, ◌*◌, ◌/◌, ◌%◌, ◌<◌, length, take, sym, refl, ap, ◌∙◌, ap₂, arith}
+use Rattle.std.proofs.Common.{◌≡◌, ◌+◌, ◌/◌, ◌<◌, length, take, sym, refl, ap, ◌∙◌, ap₂, arith}
 use Rattle.std.proofs.lemmas.List.{length-take-le}
 use Rattle.blockfile.specs.Blocks.{plain_sum, weighted_sum, word}
 use Rattle.blockfile.proofs.Sums.{plain_more, weighted_step, word_is}
@@ -22,17 +22,4 @@ loop-word-preserved c =
       weighted = weighted_step b j c.loop-word.plain c.loop-word.weighted c.from-plain.result within w c.loop-word.invariant.weighted;
       plain_fits = omega arith;
       weighted_fits = omega arith;
-    }
-
-pub returns : goal.returns
-returns c =
-    let b = c.args.block.now in
-    let half : length (take 508 b) / 2 ≡ 254 = ap (λ n. n / 2) (length-take-le 508 b (omega arith)) in
-    let all : c.loop-word.word-index ≡ 254 = omega (arith, c.as_chunks.ensures.front_len ∙ half) in
-    let second : weighted_sum b 254 ≡ c.loop-word.weighted =
-    ap (weighted_sum b) (sym all) ∙ c.loop-word.invariant.weighted ∙ ap (λ j. c.loop-word.weighted + (254 - j) * c.loop-word.plain) all ∙ omega arith
-    in
-    record {
-      first = ap (λ n. n % 65535) (c.loop-word.invariant.plain ∙ ap (plain_sum b) all);
-      second = ap (λ n. n % 65535) (sym second);
     }

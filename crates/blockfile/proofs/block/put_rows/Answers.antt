@@ -1,6 +1,4 @@
 use Rattle.std.proofs.Common.{◌+◌, ◌*◌, get_or, refl, ap, ◌∙◌, arith}
-use Rattle.std.specs.List.{flat_map}
-use Rattle.std.proofs.lemmas.List.{take_all}
 use Rattle.lists.specs.Writes.{over}
 use Rattle.blockfile.specs.Rows.{blank_row}
 use Rattle.blockfile.specs.Blocks.{entry_of}
@@ -14,8 +12,3 @@ loop-place-preserved c =
     c.put_row.ensures
     ∙ ap (λ b. over b (8 + 12 * i) (entry_of row)) c.loop-place.invariant
     ∙ entries_more c.args.block.now c.args.rows.now i row (omega arith) c.loop-place-test.true refl
-
-pub returns : goal.returns
-returns c =
-    c.loop-place.invariant
-    ∙ ap (λ rows. over c.args.block.now 8 (flat_map entry_of rows)) (take_all c.loop-place.place c.args.rows.now c.loop-place-test.false)

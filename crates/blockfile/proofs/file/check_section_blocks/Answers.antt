@@ -1,10 +1,10 @@
-use Rattle.std.proofs.Common.{◌≡◌, ◌+◌, ◌-◌, ◌*◌, ◌/◌, [], length, get_or, drop, refl, min, Err, Some, sym, ap, ◌∙◌, add-one, arith}
+use Rattle.std.proofs.Common.{◌≡◌, ◌+◌, ◌-◌, ◌/◌, length, refl, Err, Some, sym, ap, ◌∙◌, arith}
 use native.Mathlib.Nat.{sub-zero}
 use Rattle.std.proofs.lemmas.Result.{err_from_is_err_and}
 use Rattle.lists.specs.Places.{first_fault}
 use Rattle.lists.proofs.Failing.{fault_more, fault_here, fault_none}
 use Rattle.blockfile.specs.Blocks.{row_in}
-use Rattle.blockfile.specs.Files.{block_judged, block_at, before_block, total_in, count_in}
+use Rattle.blockfile.specs.Files.{block_judged, total_in, count_in}
 use Rattle.blockfile.proofs.Chunks.{before_is, length_behind, at_turn}
 use Rattle.blockfile.proofs.Passed.{judged_alike}
 use Rattle.blockfile.proofs.file.check_section_blocks.Goals as goal

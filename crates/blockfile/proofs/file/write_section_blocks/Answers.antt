@@ -1,7 +1,6 @@
 use Rattle.std.proofs.Common.{◌≡◌, ◌+◌, ◌*◌, length, drop, sym, ap, ap₂, ◌∙◌, arith, take-append-drop, length-drop}
 use Rattle.lists.specs.Writes.{over}
 use Rattle.blockfile.specs.Blocks.{section_block}
-use Rattle.blockfile.specs.Judging.{blocks_for}
 use Rattle.blockfile.specs.Files.{section_part}
 use Rattle.blockfile.proofs.Chunks.{blocks_more, next_chunk}
 use Rattle.blockfile.proofs.file.write_section_blocks.Goals as goal
@@ -39,11 +38,3 @@ loop-j-preserved c =
           ∙ blocks_more d code rows j c.loop-j.buffer c.section_block.result (omega arith) c.loop-j.invariant.buffer block
           ∙ ap (λ k. over d 512 (section_part code rows k)) (sym steps.2);
     }
-
-pub returns : goal.returns
-returns c =
-    let rows = c.args.rows.now in
-    let steps = c.in-None.ensures.steps in
-    let j = c.loop-j.j-iterator.count in
-    let all : j ≡ blocks_for (length rows) = omega (arith, ap length c.loop-j.invariant.rest, length-drop (41 * j) rows) in
-    c.loop-j.invariant.buffer ∙ ap (λ k. over c.args.buffer.now 512 (section_part c.args.code rows k)) all

@@ -1,18 +1,9 @@
-use Rattle.std.proofs.Common.{◌+◌, ◌*◌, Some, Ok, sym, refl, ap, ◌∙◌, add-one, arith}
-use native.Mathlib.Nat.{sub-zero}
-use Rattle.lists.specs.Places.{first_fault}
+use Rattle.std.proofs.Common.{◌+◌, ◌*◌, Some, Ok, sym, ap, ◌∙◌, add-one, arith}
 use Rattle.lists.proofs.Failing.{demand_holds, demand_fails, fault_more, fault_here, fault_none}
 use Rattle.blockfile.specs.declared.fault.Flaw.TheVariants.{Record}
 use Rattle.blockfile.specs.Judging.{record_judged, row_before}
 use Rattle.blockfile.proofs.Passed.{good_alike}
 use Rattle.blockfile.proofs.block.Reader.check_records.Goals as goal
-
-pub loop-i-init : goal.loop-i-init
-loop-i-init g c = (
-  ap (λ k. first_fault (record_judged c.args.self.stations g.N.Numbers.readable c.args.place.before c.args.block.now) k 0)
-      (sym (sub-zero c.args.place.count)),
-  refl,
-)
 
 pub returns-then-not-is_good : goal.returns-then-not-is_good
 returns-then-not-is_good g c =
