@@ -1,5 +1,10 @@
 pub mod Counts
 pub mod Heap
+pub mod LaneLaws
 pub mod Lanes
 pub mod Marks
+pub mod Layout
+pub mod OrderLaws
+pub mod Orders
+pub mod SideLaws
 pub mod Slots

@@ -1,7 +1,7 @@
 // Lanes: what one queue sees of the tables that several share.
 ghost use Rattle.std.specs.Prelude.{◌≡◌, ℕ};
+ghost use Rattle.queue.specs.LaneLaws.{IsLane};
 ghost use Rattle.queue.specs.declared.mark.Mark.{Mark as Marking};
-ghost use Rattle.queue.specs.declared.mark.Mark.TheVariants.{Blank};
 
 use crate::mark::Mark;
 
@@ -31,10 +31,6 @@ pub trait Lane<R, W> {
     fn with_mark(byte: u8, m: Mark) -> u8
         ensures { result ≡ marked byte m };
 
-    // A key that was given is read back, so is a mark, and a byte of zero is blank.
-    ghost reads: { (r : R) (w : W) → key (keyed r w) ≡ w };
-
-    ghost shows: { (b : ℕ) (m : Marking) → mark (marked b m) ≡ m };
-
-    ghost blank: { mark 0 ≡ Blank };
+    // What was given is read back, and a byte of zero is blank.
+    ghost lawful: { IsLane key keyed mark marked };
 }

@@ -1,12 +1,15 @@
-// The lanes over the key record of the index.
-ghost use Rattle.std.specs.Prelude.{◌≡◌};
+// The lanes over the key record of the index. One byte holds the marks of both sides: a rule of the mark table.
+ghost use Rattle.std.specs.Prelude.{◌≡◌, ◌⊎◌};
 ghost use Rattle.queue.specs.Lanes.{SidesApart, count_key, count_keyed, forward_key, forward_keyed, reverse_key, reverse_keyed};
-ghost use Rattle.queue.specs.Marks.{high_mark, high_marked, low_mark, low_marked};
-ghost use Rattle.std.proofs.Common.{rules};
+ghost use Rattle.queue.specs.Marks.{high_mark, high_marked, low_mark, low_marked, mark_at, marked_at};
+ghost use Rattle.queue.specs.Counts.{no_more};
+ghost use Rattle.queue.specs.OrderLaws.{counts_ordered, weights_ordered};
+ghost use Rattle.queue.specs.SideLaws.{count_lane, forward_lane, reverse_lane};
 
 use crate::lane::Lane;
 use crate::mark::Mark;
-use crate::rank::Count;
+use crate::rank::{Count, Rank};
+use measure::Measure;
 use model::records::Key;
 
 // Forward weights, with marks in bits 0 and 1.
@@ -21,32 +24,20 @@ pub struct Reverse;
 #[derive(Clone, Copy)]
 pub struct Counts;
 
-// The mark in bits 0 and 1.
-fn low_mark(byte: u8) -> Mark
-    ensures { result ≡ low_mark byte }
+// The mark in the two bits of which the lower counts as `UNIT`.
+fn mark_at<const UNIT: u8>(byte: u8) -> Mark
+    requires { (UNIT ≡ 1) ⊎ (UNIT ≡ 4) }
+    ensures { result ≡ mark_at UNIT byte }
 {
-    Mark::numbered(byte % 4)
+    Mark::from(byte / UNIT % 4)
 }
 
-// The byte with another mark in bits 0 and 1.
-fn with_low_mark(byte: u8, m: Mark) -> u8
-    ensures { result ≡ low_marked byte m }
+// The byte with another mark in those two bits.
+fn with_mark_at<const UNIT: u8>(byte: u8, m: Mark) -> u8
+    requires { (UNIT ≡ 1) ⊎ (UNIT ≡ 4) }
+    ensures { result ≡ marked_at UNIT byte m }
 {
-    byte / 4 * 4 + m.number()
-}
-
-// The mark in bits 2 and 3.
-fn high_mark(byte: u8) -> Mark
-    ensures { result ≡ high_mark byte }
-{
-    Mark::numbered(byte / 4 % 4)
-}
-
-// The byte with another mark in bits 2 and 3.
-fn with_high_mark(byte: u8, m: Mark) -> u8
-    ensures { result ≡ high_marked byte m }
-{
-    byte / 16 * 16 + m.number() * 4 + byte % 4
+    byte / (4 * UNIT) * (4 * UNIT) + u8::from(m) * UNIT + byte % UNIT
 }
 
 impl<M: Copy> Lane<Key<M>, M> for Forward {
@@ -58,11 +49,7 @@ impl<M: Copy> Lane<Key<M>, M> for Forward {
 
     ghost marked = { low_marked };
 
-    ghost reads = { Prim.search rules };
-
-    ghost shows = { Prim.search rules };
-
-    ghost blank = { Prim.search rules };
+    ghost lawful = { forward_lane };
 
     fn key_of(row: Key<M>) -> M {
         row.forward
@@ -73,11 +60,11 @@ impl<M: Copy> Lane<Key<M>, M> for Forward {
     }
 
     fn mark_of(byte: u8) -> Mark {
-        low_mark(byte)
+        mark_at::<1>(byte)
     }
 
     fn with_mark(byte: u8, m: Mark) -> u8 {
-        with_low_mark(byte, m)
+        with_mark_at::<1>(byte, m)
     }
 }
 
@@ -90,11 +77,7 @@ impl<M: Copy> Lane<Key<M>, M> for Reverse {
 
     ghost marked = { high_marked };
 
-    ghost reads = { Prim.search rules };
-
-    ghost shows = { Prim.search rules };
-
-    ghost blank = { Prim.search rules };
+    ghost lawful = { reverse_lane };
 
     fn key_of(row: Key<M>) -> M {
         row.reverse
@@ -105,11 +88,11 @@ impl<M: Copy> Lane<Key<M>, M> for Reverse {
     }
 
     fn mark_of(byte: u8) -> Mark {
-        high_mark(byte)
+        mark_at::<4>(byte)
     }
 
     fn with_mark(byte: u8, m: Mark) -> u8 {
-        with_high_mark(byte, m)
+        with_mark_at::<4>(byte, m)
     }
 }
 
@@ -122,11 +105,7 @@ impl<M: Copy> Lane<Key<M>, Count> for Counts {
 
     ghost marked = { low_marked };
 
-    ghost reads = { Prim.search rules };
-
-    ghost shows = { Prim.search rules };
-
-    ghost blank = { Prim.search rules };
+    ghost lawful = { count_lane };
 
     fn key_of(row: Key<M>) -> Count {
         Count(row.count)
@@ -137,17 +116,47 @@ impl<M: Copy> Lane<Key<M>, Count> for Counts {
     }
 
     fn mark_of(byte: u8) -> Mark {
-        low_mark(byte)
+        mark_at::<1>(byte)
     }
 
     fn with_mark(byte: u8, m: Mark) -> u8 {
-        with_low_mark(byte, m)
+        with_mark_at::<1>(byte, m)
+    }
+}
+
+// Forward weights come by the measure's own order.
+impl<M: Measure> Rank<M> for Forward {
+    ghost leb = { M.Measure.meaning.leb };
+
+    ghost lawful = { weights_ordered M.Measure.lawful };
+
+    fn no_worse(a: M, b: M) -> bool {
+        a.no_worse(b)
+    }
+}
+
+// Reverse weights come as forward ones do.
+impl<M: Measure> Rank<M> for Reverse {
+    ghost leb = { M.Measure.meaning.leb };
+
+    ghost lawful = { weights_ordered M.Measure.lawful };
+
+    fn no_worse(a: M, b: M) -> bool {
+        Forward::no_worse(a, b)
+    }
+}
+
+impl Rank<Count> for Counts {
+    ghost leb = { no_more };
+
+    ghost lawful = { counts_ordered };
+
+    fn no_worse(a: Count, b: Count) -> bool {
+        a <= b
     }
 }
 
 // A queue of one side leaves what a queue of the other side sees as it is.
-pub fn sides_apart<M: Copy>() -> u8
+pub fn sides_apart<M: Copy>()
     ensures { SidesApart M }
-{
-    0
-}
+{}

@@ -8,4 +8,6 @@ pub mod lanes;
 pub mod mark;
 pub mod offers;
 pub mod operations;
+mod places;
 pub mod rank;
+pub mod search;

@@ -2,6 +2,7 @@
 ghost use Rattle.std.specs.Prelude.{◌≡◌};
 ghost use Rattle.queue.specs.Marks.{mark_number, mark_numbered};
 
+// A slot without its key; as `Slot<()>` each mark and each number of one would carry a `()`.
 #[derive(Clone, Copy)]
 pub enum Mark {
     Blank,
@@ -9,23 +10,25 @@ pub enum Mark {
     Settled,
 }
 
-impl Mark {
-    // The mark that two bits stand for.
-    pub(crate) fn numbered(bits: u8) -> Mark
-        ensures { result ≡ mark_numbered bits }
-    {
+// The mark that two bits stand for.
+impl From<u8> for Mark {
+    ghost from_gives = { λ bits m. m ≡ mark_numbered bits };
+
+    fn from(bits: u8) -> Mark {
         match bits {
             0 => Mark::Blank,
             1 => Mark::Waiting,
             _ => Mark::Settled,
         }
     }
+}
 
-    // The two bits that stand for a mark.
-    pub(crate) fn number(self) -> u8
-        ensures { result ≡ mark_number self }
-    {
-        match self {
+// The two bits that stand for a mark.
+impl From<Mark> for u8 {
+    ghost from_gives = { λ m bits. bits ≡ mark_number m };
+
+    fn from(mark: Mark) -> u8 {
+        match mark {
             Mark::Blank => 0,
             Mark::Waiting => 1,
             Mark::Settled => 2,

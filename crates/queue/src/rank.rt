@@ -1,54 +1,18 @@
-// Keys with a total order.
-ghost use Rattle.std.specs.Prelude.{◌≡◌, Bool, true, false};
-ghost use Rattle.queue.specs.Counts.{no_more};
-ghost use Rattle.std.proofs.Common.{rules};
+// The order in which a queue's keys come, and counts as keys.
+ghost use Rattle.std.specs.Prelude.{◌≡◌, Bool};
+ghost use Rattle.queue.specs.Orders.{TotalOrder};
 
-use measure::Measure;
-
-// A key with a total order.
-pub trait Rank: Copy {
+// A lane's total order of its keys.
+pub trait Rank<W> {
     // Whether the first key is no worse than the second.
-    ghost leb: { Self → Self → Bool };
+    ghost leb: { W → W → Bool };
 
-    fn no_worse(self, other: Self) -> bool
-        ensures { result ≡ leb self other };
+    fn no_worse(a: W, b: W) -> bool
+        ensures { result ≡ leb a b };
 
-    ghost total: { (a b : Self) → leb a b ≡ false → leb b a ≡ true };
-
-    ghost transitive: { (a b c : Self) → leb a b ≡ true → leb b c ≡ true → leb a c ≡ true };
-
-    ghost antisymmetric: { (a b : Self) → leb a b ≡ true → leb b a ≡ true → a ≡ b };
+    ghost lawful: { TotalOrder leb };
 }
 
 // A number of things, as a key: fewer is better.
-#[derive(Clone, Copy)]
+#[derive(Clone, Copy, PartialEq, Eq, PartialOrd, Ord, Debug)]
 pub struct Count(pub u32);
-
-impl Rank for Count {
-    ghost leb = { no_more };
-
-    ghost total = { Prim.search rules };
-
-    ghost transitive = { Prim.search rules };
-
-    ghost antisymmetric = { Prim.search rules };
-
-    fn no_worse(self, other: Count) -> bool {
-        self.0 <= other.0
-    }
-}
-
-// The weights of every measure, by its own order.
-impl<M: Measure> Rank for M {
-    ghost leb = { M.Measure.meaning.leb };
-
-    ghost total = { Prim.search rules };
-
-    ghost transitive = { Prim.search rules };
-
-    ghost antisymmetric = { Prim.search rules };
-
-    fn no_worse(self, other: M) -> bool {
-        Measure::no_worse(self, other)
-    }
-}

@@ -1,10 +1,5 @@
 use Rattle.std.proofs.Common.{◌≤◌}
-use Rattle.queue.specs.Counts.{no_more}
-use Rattle.queue.specs.Heap.{Holds}
-use Rattle.queue.specs.Lanes.{count_key}
-use Rattle.queue.specs.Marks.{low_mark}
-use Rattle.queue.specs.Slots.{slots}
 use Rattle.queue_trials.proofs.tests.enter_all.Given as goal
 
 abbrev pub invariant-loop-s : goal.invariant-loop-s
-invariant-loop-s l = Holds no_more l.queue (slots count_key low_mark l.marks l.keys) × (l.n ≤ l.s)
+invariant-loop-s l = l.n ≤ l.s

@@ -1,33 +1,23 @@
-use Rattle.std.proofs.Common.{◌≡◌, ◌<◌, sym, ◌∙◌, arith}
-use Rattle.queue.specs.Slots.{slots}
-use Rattle.queue.proofs.Keys.{key_read}
-use Rattle.queue.proofs.Taking.{none_waits, top_least}
-use Rattle.queue.proofs.Views.{top_known}
+use Rattle.std.proofs.Common.{arith}
+use Rattle.queue.proofs.Calls.{first_found, first_none, first_within}
 use Rattle.queue.proofs.heap.Queue.first.Goals as goal
 
 pub returns-then-len-eq0 : goal.returns-then-len-eq0
 returns-then-len-eq0 g c marks holds =
-    let xs = slots g.L.Lane.key g.L.Lane.mark marks c.args.keys.now in
-    let empty : c.args.self.now.len ≡ 0 = omega (arith, c.if-len-eq0.true, c.len.ensures xs holds, holds.listed.counted) in
-    sym (none_waits g.W.Rank.leb g.met.W.Rank.total g.met.W.Rank.transitive c.args.self.now xs holds empty)
+    first_none g.L.Lane.key g.L.Lane.mark g.met.L.Rank.lawful marks c.args.keys.now c.args.self.now.places holds
+    c.len.result c.len.ensures c.if-len-eq0.true
 
-pub returns-then-s-keys : goal.returns-then-s-keys
-returns-then-s-keys g c marks holds =
-    let xs = slots g.L.Lane.key g.L.Lane.mark marks c.args.keys.now in
-    let some : 0 < c.args.self.now.len = omega (arith, c.if-len-eq0.false, c.len.ensures xs holds, holds.listed.counted) in
-    let top = top_known g.L.Lane.key g.L.Lane.mark g.W.Rank.leb marks c.args.keys.now c.args.self.now
-    holds.listed some in
-    let past = c.if-s-keys.true in
-    absurd (omega (arith, top.1))
+pub returns-in_err-row : goal.returns-in_err-row
+returns-in_err-row g c marks holds =
+    let within = first_within g.L.Lane.key g.L.Lane.mark g.met.L.Rank.lawful marks c.args.keys.now c.args.self.now.places holds
+    c.len.result c.len.ensures
+    c.if-len-eq0.false c.station_at-s.result c.station_at-s.ensures in
+    let past = c.in_err-row.ensures.lookup in
+    absurd (omega arith)
 
 pub returns : goal.returns
 returns g c marks holds =
-    let xs = slots g.L.Lane.key g.L.Lane.mark marks c.args.keys.now in
-    let some : 0 < c.args.self.now.len = omega (arith, c.if-len-eq0.false, c.len.ensures xs holds, holds.listed.counted) in
-    let top = top_known g.L.Lane.key g.L.Lane.mark g.W.Rank.leb marks c.args.keys.now c.args.self.now
-    holds.listed some in
-    sym (top_least g.W.Rank.leb g.met.W.Rank.total g.met.W.Rank.transitive c.args.self.now xs holds some
-    c.key_of.result
-    (top.2
-    ∙ key_read g.L.Lane.key c.args.keys.now _ c.index-keys-s.result c.key_of.result top.1
-    c.index-keys-s.is c.key_of.ensures))
+    first_found g.L.Lane.key g.L.Lane.mark g.met.L.Rank.lawful marks c.args.keys.now c.args.self.now.places holds
+    c.len.result c.len.ensures c.if-len-eq0.false
+    c.station_at-s.result c.station_at-s.ensures c.in_ok-row.row.now c.key_of.result
+    c.in_ok-row.ensures.lookup.1 c.key_of.ensures

@@ -1,5 +1,0 @@
-use Rattle.std.proofs.Common.{◌≡◌, ℕ, ◌<◌, length, get_or}
-use Rattle.queue.proofs.fresh.numbered.Given as goal
-
-abbrev pub invariant-loop-p : goal.invariant-loop-p
-invariant-loop-p l = (length l.places ≡ 2048) × ((k : ℕ) → k < l.p → get_or l.places k 0 ≡ k)

@@ -1,0 +1,98 @@
+// A queue together with the tables that it works on.
+ghost use Rattle.std.specs.Prelude.{◌≡◌, ◌<◌, ◌≤◌, not, length, if◌then◌else◌, is_some, replicate, slice_index_or, slice_set};
+ghost use Rattle.model.specs.declared.slot.Slot.TheVariants.{Free, Waits};
+ghost use Rattle.model.specs.Slots.{least};
+ghost use Rattle.queue.specs.Slots.{may_offer, slots_settled, waiting};
+
+use crate::heap::Queue;
+use crate::lane::Lane;
+use crate::offers::{offer, start};
+use crate::operations::slot_at;
+use crate::rank::Rank;
+use model::slot::Slot;
+use std::marker::Model;
+
+// One queue and the tables it works on, as long as no other queue does: seen as what it knows of every station.
+#[derive(Drop)]
+pub struct Search<'a, L: Lane<R, W> + Rank<W>, R: Copy, W: Copy> {
+    queue: Queue<L, W>,
+    marks: &'a mut [u8],
+    keys: &'a mut [R],
+}
+
+impl<'a, L: Lane<R, W> + Rank<W>, R: Copy, W: Copy> Model for Search<'a, L, R, W> {
+    ghost use Rattle.std.specs.Prelude.{List};
+    ghost use Rattle.model.specs.declared.slot.Slot.{Slot as SlotOf};
+    ghost use Rattle.queue.specs.Heap.{Holds};
+    ghost use Rattle.queue.specs.Slots.{slots};
+
+    ghost Value = { List (SlotOf W) };
+
+    ghost view = { λ s. slots L.key L.mark s.marks.now s.keys.now };
+
+    ghost invariant = { λ s. Holds L.leb s.queue (slots L.key L.mark s.marks.now s.keys.now) };
+}
+
+impl<'a, L: Lane<R, W> + Rank<W>, R: Copy, W: Copy> Search<'a, L, R, W> {
+    // Blanks the marks; no station waits.
+    pub fn new(marks: &'a mut [u8], keys: &'a mut [R]) -> Search<'a, L, R, W>
+        requires { length marks.old ≤ length keys.old }
+        ensures { result ≡ replicate (length marks.old) Free }
+    {
+        let queue = start::<L, R, W>(marks, keys);
+        Search { queue, marks, keys }
+    }
+
+    // How many stations there are.
+    pub fn stations(&self) -> usize
+        ensures { result ≡ length self.now }
+    {
+        self.marks.len().min(self.keys.len())
+    }
+
+    // What is known of station `s`.
+    pub fn slot(&self, s: usize) -> Slot<W>
+        requires { s < length self.now }
+        ensures { result ≡ slice_index_or self.now s Free }
+    {
+        slot_at::<L, R, W>(self.marks, self.keys, s)
+    }
+
+    // How many stations wait.
+    pub fn len(&self) -> usize
+        ensures { result ≡ waiting self.now }
+    {
+        self.queue.len()
+    }
+
+    // Whether no station waits.
+    pub fn is_empty(&self) -> bool
+        ensures { result ≡ not (is_some (least L.leb self.now)) }
+    {
+        self.queue.is_empty()
+    }
+
+    // The waiting station with the best key, the lowest at a tie, and its key.
+    pub fn first(&self) -> Option<(usize, W)>
+        ensures { result ≡ least L.leb self.now }
+    {
+        self.queue.first(self.keys)
+    }
+
+    // Puts station `s` with key `k`, if it may be taken, and says whether it did.
+    pub fn offer(&mut self, s: usize, k: W) -> bool
+        ensures answer { result ≡ may_offer L.leb self.old s k }
+        ensures view { self.new ≡ (if result then slice_set self.old s (Waits k) else self.old) }
+    {
+        offer(&mut self.queue, self.marks, self.keys, s, k)
+    }
+
+    // Takes the first station out and settles it.
+    pub fn take(&mut self) -> Option<(usize, W)>
+        ensures first { result ≡ least L.leb self.old }
+        ensures view { self.new ≡ slots_settled result self.old }
+    {
+        let keys = &mut *self.keys;
+        self.queue.take(self.marks, keys)
+    }
+}
