@@ -1,6 +1,9 @@
 // Marks: where a station stands with one queue.
 ghost use Rattle.std.specs.Prelude.{◌≡◌};
 ghost use Rattle.queue.specs.Marks.{mark_number, mark_numbered};
+ghost use Rattle.queue.specs.Slots.{slot};
+
+use model::slot::Slot;
 
 // A slot without its key; as `Slot<()>` each mark and each number of one would carry a `()`.
 #[derive(Clone, Copy)]
@@ -8,6 +11,19 @@ pub enum Mark {
     Blank,
     Waiting,
     Settled,
+}
+
+impl Mark {
+    // The slot of a station with this mark and this key.
+    pub(crate) fn slot<W: Copy>(self, key: W) -> Slot<W>
+        ensures { result ≡ slot self key }
+    {
+        match self {
+            Mark::Blank => Slot::Free,
+            Mark::Waiting => Slot::Waits(key),
+            Mark::Settled => Slot::Settled(key),
+        }
+    }
 }
 
 // The mark that two bits stand for.

@@ -17,7 +17,7 @@ pub(crate) struct Places {
     ghost room: { len ≤ 2048 },
 }
 
-// Each number below 2,048 at its own place.
+// Each number below 2,048 at its own place. Such a number is proved to fit, so `as u16` stands in place of a `try_from`.
 fn numbered() -> [u16; ROOM]
     ensures { (p : ℕ) → p < 2048 → slice_index result p ≡ p }
 {
