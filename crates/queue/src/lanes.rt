@@ -24,7 +24,8 @@ pub struct Reverse;
 #[derive(Clone, Copy)]
 pub struct Counts;
 
-// The mark in the two bits of which the lower counts as `UNIT`.
+// The mark in the two bits of which the lower counts as `UNIT`. Each lane names its unit; a body in the trait would fix
+// for every lane how it marks.
 fn mark_at<const UNIT: u8>(byte: u8) -> Mark
     requires { (UNIT ≡ 1) ⊎ (UNIT ≡ 4) }
     ensures { result ≡ mark_at UNIT byte }
