@@ -144,7 +144,7 @@ fn put_rows(block: &mut Block, rows: &[Row])
 }
 
 // The header of a file of `n` stations and `total` sections.
-pub(crate) fn header(n: u16, code: u8, total: u32) -> Block
+fn header(n: u16, code: u8, total: u32) -> Block
     ensures { result ≡ header n code total }
 {
     let mut block = [0; BLOCK];
@@ -156,7 +156,7 @@ pub(crate) fn header(n: u16, code: u8, total: u32) -> Block
 }
 
 // The section block of that number with these rows.
-pub(crate) fn section_block(number: u32, code: u8, rows: &[Row]) -> Block
+fn section_block(number: u32, code: u8, rows: &[Row]) -> Block
     requires { length rows.now ≤ 41 }
     ensures { result ≡ section_block code number rows.now }
 {
@@ -165,6 +165,23 @@ pub(crate) fn section_block(number: u32, code: u8, rows: &[Row]) -> Block
     put_rows(&mut block, rows);
     seal(&mut block);
     block
+}
+
+// Fills a part of a file with its header.
+pub(crate) fn write_header(out: &mut [u8], n: u16, code: u8, total: u32)
+    requires { length out.old ≡ 512 }
+    ensures { out.new ≡ header n code total }
+{
+    out.copy_from_slice(&header(n, code, total));
+}
+
+// Fills a part of a file with the section block of that number.
+pub(crate) fn write_sections(out: &mut [u8], number: u32, code: u8, rows: &[Row])
+    requires long { length out.old ≡ 512 }
+    requires few { length rows.now ≤ 41 }
+    ensures { out.new ≡ section_block code number rows.now }
+{
+    out.copy_from_slice(&section_block(number, code, rows));
 }
 
 // The stored check sums are those of the words; a stored 65,535 is none.

@@ -8,12 +8,12 @@ ghost use Rattle.blockfile.specs.Laws.{ReadsBack, Accepted};
 ghost use Rattle.blockfile.specs.Rows.{blank_row};
 
 use crate::block::{
-    BLOCK, Block, Place, RECORDS, Reader, header, row_in, section_block, section_blocks,
+    BLOCK, Block, Place, RECORDS, Reader, row_in, section_blocks, write_header, write_sections,
 };
 use crate::fault::{BlockFault, FileFault};
 use crate::numbers::Numbers;
 use crate::row::Row;
-use lists::{field, put};
+use lists::field;
 
 // A length of whole blocks, at least one.
 fn is_whole(len: usize) -> bool
@@ -30,11 +30,8 @@ fn write_section_blocks(buffer: &mut [u8], code: u8, rows: &[Row])
 {
     for (j, rows) in rows.chunks(RECORDS).enumerate() {
         let number = j + 1;
-        put(
-            buffer,
-            number * BLOCK,
-            &section_block(number as u32, code, rows),
-        );
+        let at = number * BLOCK;
+        write_sections(&mut buffer[at..at + BLOCK], number as u32, code, rows);
     }
 }
 
@@ -50,7 +47,7 @@ pub fn write_file(buffer: &mut [u8], n: u16, code: u8, rows: &[Row]) -> Result<u
     if !is_whole(buffer.len()) || buffer.len() < size {
         return Err(FileFault::Length);
     }
-    put(buffer, 0, &header(n, code, rows.len() as u32));
+    write_header(&mut buffer[0..BLOCK], n, code, rows.len() as u32);
     write_section_blocks(buffer, code, rows);
     Ok(size)
 }

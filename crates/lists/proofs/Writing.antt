@@ -1,7 +1,12 @@
 -- Writes over a part of a list.
 use Rattle.std.proofs.Common.{◌≡◌, ℕ, ◌+◌, ◌-◌, ◌≤◌, List, ◌++◌, length, take, drop, replicate, sym, ap, ◌∙◌, ap₂, append_assoc, arith, length-append}
+use borrow.Rule.Slice.PartMut.{put_mid}
 use Rattle.std.proofs.lemmas.List.{length-replicate, take_at, drop_at, drop-drop, length-take-le, drop-replicate, replicate-append-replicate, drop_all, append-nil}
 use Rattle.lists.specs.Writes.{over, filled}
+
+-- what a write to the part of k elements from a on leaves
+pub put_mid_over : {X : Type 0} (a k : ℕ) (d s : List X) → k ≡ length s → put_mid a k d s ≡ over d a s
+put_mid_over a k d s e = ap (λ x. take a d ++ (s ++ x)) (drop-drop k a d ∙ ap (λ n. drop (a + n) d) e)
 
 pub length_filled : (n : ℕ) (p : List ℕ) → length p ≤ n → length (filled n p) ≡ n
 length_filled n p h = simp (length-append, length-replicate) (omega arith)
