@@ -1,8 +1,8 @@
 // Two queues over the same tables, one for each side.
-ghost use Rattle.std.specs.Prelude.{◌≡◌, ◌≤◌, ◌<◌, length, if◌then◌else◌, replicate, slice_index_or, slice_set};
+ghost use Rattle.std.specs.Prelude.{◌≡◌, ◌≤◌, length, if◌then◌else◌, replicate, slice_set};
 ghost use Rattle.model.specs.declared.slot.Slot.TheVariants.{Free, Waits};
 ghost use Rattle.model.specs.Slots.{least};
-ghost use Rattle.queue.specs.Slots.{Takes, slots_settled};
+ghost use Rattle.queue.specs.Slots.{slots_settled};
 
 use measure::Measure;
 use model::records::Key;
