@@ -1,7 +1,7 @@
 // A network as a file in memory, and what the reader says of it.
 ghost use Rattle.std.specs.Prelude.{is_some};
 
-use anyhow::anyhow;
+use anyhow::ensure;
 use blockfile::file::{check_file, write_file};
 use blockfile::numbers::Numbers;
 use blockfile::row::Row;
@@ -42,9 +42,7 @@ pub fn travel<M: Measure>(rt: &HostRuntime, sections: &[Section<M>], n: u16) -> 
     for section in sections {
         rows.push(row_of(section)?)?;
     }
-    if rows.len() > 16_384 {
-        return Err(anyhow!("too many sections for a file"));
-    }
+    ensure!(rows.len() <= 16_384, "too many sections for a file");
     let mut buffer = [0u8; 1024];
     match write_file(&mut buffer, n, M::code(), &rows) {
         Ok(size) => println!(rt; "  written, {size} bytes")?,

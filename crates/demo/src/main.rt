@@ -6,7 +6,7 @@ mod files;
 mod sections;
 mod walks;
 
-use anyhow::anyhow;
+use anyhow::Context;
 use files::travel;
 use measure::Measure;
 use measure::clearance::Clearance;
@@ -59,9 +59,7 @@ const WALKS: [&[usize]; 3] = [&[1, 4, 5], &[1, 2, 3, 4, 5], &[2, 3]];
 fn network<M: Figured>(rt: &HostRuntime) -> anyhow::Result<Vec<Section<M>>> {
     let mut sections = Vec::new(rt.alloc());
     for (low, high, figure) in SECTIONS {
-        let Some(weight) = M::of_figure(figure) else {
-            return Err(anyhow!("a figure is no weight"));
-        };
+        let weight = M::of_figure(figure).context("a figure is no weight")?;
         sections.push(Section { low, high, weight })?;
     }
     Ok(sections)

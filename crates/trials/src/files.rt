@@ -78,17 +78,16 @@ fn lengths(rt: HostRuntime) {
 
 // Puts the check sums right: the second adds up what the first is after each word.
 fn reseal(block: &mut [u8; 512]) {
-    let mut first: u32 = 0;
-    let mut second: u32 = 0;
-    for word in block[..508].chunks_exact(2) {
-        let word = u16::from_le_bytes([word[0], word[1]]);
-        first = first.wrapping_add(u32::from(word)) % 65535;
-        second = second.wrapping_add(first) % 65535;
+    let mut first: u64 = 0;
+    let mut second: u64 = 0;
+    for word in block[..508].as_chunks().0 {
+        first = first.wrapping_add(u64::from(u16::from_le_bytes(*word)));
+        second = second.wrapping_add(first);
     }
-    block[508] = (first % 256) as u8;
-    block[509] = (first / 256 % 256) as u8;
-    block[510] = (second % 256) as u8;
-    block[511] = (second / 256 % 256) as u8;
+    let sums = [(first % 65535) as u16, (second % 65535) as u16];
+    for (field, sum) in block[508..].as_chunks_mut().0.iter_mut().zip(sums) {
+        *field = sum.to_le_bytes();
+    }
 }
 
 // What a file of one section is called after a byte of it became another, under right check sums.
