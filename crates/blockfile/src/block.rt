@@ -143,36 +143,17 @@ fn put_rows(block: &mut Block, rows: &[Row])
     }
 }
 
-// The header of a file of `n` stations and `total` sections.
-fn header(n: u16, code: u8, total: u32) -> Block
-    ensures { result ≡ header n code total }
+// Fills a part of a file with the header of `n` stations and `total` sections.
+pub(crate) fn write_header(out: &mut [u8], n: u16, code: u8, total: u32)
+    requires { length out.old ≡ 512 }
+    ensures { out.new ≡ header n code total }
 {
     let mut block = [0; BLOCK];
     Front::of_header(code).put_in(&mut block);
     put(&mut block, 8, &n.to_le_bytes());
     put(&mut block, 10, &total.to_le_bytes());
     seal(&mut block);
-    block
-}
-
-// The section block of that number with these rows.
-fn section_block(number: u32, code: u8, rows: &[Row]) -> Block
-    requires { length rows.now ≤ 41 }
-    ensures { result ≡ section_block code number rows.now }
-{
-    let mut block = [0; BLOCK];
-    Front::of_sections(number, rows.len() as u16, code).put_in(&mut block);
-    put_rows(&mut block, rows);
-    seal(&mut block);
-    block
-}
-
-// Fills a part of a file with its header.
-pub(crate) fn write_header(out: &mut [u8], n: u16, code: u8, total: u32)
-    requires { length out.old ≡ 512 }
-    ensures { out.new ≡ header n code total }
-{
-    out.copy_from_slice(&header(n, code, total));
+    out.copy_from_slice(&block);
 }
 
 // Fills a part of a file with the section block of that number.
@@ -181,7 +162,11 @@ pub(crate) fn write_sections(out: &mut [u8], number: u32, code: u8, rows: &[Row]
     requires few { length rows.now ≤ 41 }
     ensures { out.new ≡ section_block code number rows.now }
 {
-    out.copy_from_slice(&section_block(number, code, rows));
+    let mut block = [0; BLOCK];
+    Front::of_sections(number, rows.len() as u16, code).put_in(&mut block);
+    put_rows(&mut block, rows);
+    seal(&mut block);
+    out.copy_from_slice(&block);
 }
 
 // The stored check sums are those of the words; a stored 65,535 is none.

@@ -1,6 +1,6 @@
 // A queue over its tables, for callers that test before they put. The tables come apart from the queue, since two queues
 // may share them; where one has them to itself, `Search` holds all three.
-ghost use Rattle.std.specs.Prelude.{◌≡◌, ◌≤◌, length, if◌then◌else◌, replicate, slice_set};
+ghost use Rattle.std.specs.Prelude.{◌≡◌, min, length, if◌then◌else◌, replicate, slice_set};
 ghost use Rattle.model.specs.declared.slot.Slot.TheVariants.{Free, Waits};
 ghost use Rattle.queue.specs.Heap.{Holds};
 ghost use Rattle.queue.specs.Slots.{may_offer, may_take, slots};
@@ -13,8 +13,7 @@ use model::slot::Slot;
 
 // Blanks the marks and gives a new queue over them.
 pub fn start<L: Lane<R, W> + Rank<W>, R: Copy, W: Copy>(marks: &mut [u8], keys: &[R]) -> Queue<L, W>
-    requires { length marks.old ≤ length keys.now }
-    ensures view { slots L.key L.mark marks.new keys.now ≡ replicate (length marks.old) Free }
+    ensures view { slots L.key L.mark marks.new keys.now ≡ replicate (min (length marks.old) (length keys.now)) Free }
     ensures holds { Holds L.leb result (slots L.key L.mark marks.new keys.now) }
 {
     marks.fill(0);

@@ -1,5 +1,5 @@
 // A queue together with the tables that it works on.
-ghost use Rattle.std.specs.Prelude.{◌≡◌, ◌<◌, ◌≤◌, not, length, if◌then◌else◌, is_some, replicate, slice_index_or, slice_set};
+ghost use Rattle.std.specs.Prelude.{◌≡◌, ◌<◌, min, not, length, if◌then◌else◌, is_some, replicate, slice_index_or, slice_set};
 ghost use Rattle.model.specs.declared.slot.Slot.TheVariants.{Free, Waits};
 ghost use Rattle.model.specs.Slots.{least};
 ghost use Rattle.queue.specs.Slots.{may_offer, slots_settled, waiting};
@@ -36,8 +36,7 @@ impl<'a, L: Lane<R, W> + Rank<W>, R: Copy, W: Copy> Model for Search<'a, L, R, W
 impl<'a, L: Lane<R, W> + Rank<W>, R: Copy, W: Copy> Search<'a, L, R, W> {
     // Blanks the marks; no station waits.
     pub fn new(marks: &'a mut [u8], keys: &'a mut [R]) -> Search<'a, L, R, W>
-        requires { length marks.old ≤ length keys.old }
-        ensures { result ≡ replicate (length marks.old) Free }
+        ensures { result ≡ replicate (min (length marks.old) (length keys.old)) Free }
     {
         let queue = start::<L, R, W>(marks, keys);
         Search { queue, marks, keys }

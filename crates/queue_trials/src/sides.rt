@@ -1,5 +1,5 @@
 // Two queues over the same tables, one for each side.
-ghost use Rattle.std.specs.Prelude.{◌≡◌, ◌≤◌, length, if◌then◌else◌, replicate, slice_set};
+ghost use Rattle.std.specs.Prelude.{◌≡◌, min, length, if◌then◌else◌, replicate, slice_set};
 ghost use Rattle.model.specs.declared.slot.Slot.TheVariants.{Free, Waits};
 ghost use Rattle.model.specs.Slots.{least};
 ghost use Rattle.queue.specs.Slots.{slots_settled};
@@ -40,8 +40,8 @@ impl<'a, M: Measure> Model for Sides<'a, M> {
 impl<'a, M: Measure> Sides<'a, M> {
     // Blanks the marks; no station waits on either side.
     pub fn new(marks: &'a mut [u8], keys: &'a mut [Key<M>]) -> Sides<'a, M>
-        requires { length marks.old ≤ length keys.old }
-        ensures { result ≡ (replicate (length marks.old) Free, replicate (length marks.old) Free) }
+        ensures { result
+            ≡ (replicate (min (length marks.old) (length keys.old)) Free, replicate (min (length marks.old) (length keys.old)) Free) }
     {
         marks.fill(0);
         Sides {

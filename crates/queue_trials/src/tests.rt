@@ -84,6 +84,7 @@ fn an_equal_key_changes_nothing(rt: HostRuntime) {
 fn enter_all(queue: &mut Counted<'_>) -> usize {
     let mut n = 0;
     for s in 0..2048u32 {
+        // A `usize` has no `From<u32>`.
         if queue.offer(s as usize, Count(s * 37 % 1024)) {
             n += 1;
         }

@@ -27,6 +27,7 @@ fn turn(search: &mut Counted<'_>, x: u32) -> bool {
         let by_scan = least(search);
         return search.take() == by_scan;
     }
+    // Below 64, which a `usize` holds; it has no `From<u32>`.
     let s = (x / 65_536 % 64) as usize;
     let n = x / 4_096 % 16;
     let _ = search.offer(s, Count(n));

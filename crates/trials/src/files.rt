@@ -84,6 +84,7 @@ fn reseal(block: &mut [u8; 512]) {
         first = first.wrapping_add(u64::from(u16::from_le_bytes(*word)));
         second = second.wrapping_add(first);
     }
+    // Remainders below 65,535, which fit.
     let sums = [(first % 65535) as u16, (second % 65535) as u16];
     for (field, sum) in block[508..].as_chunks_mut().0.iter_mut().zip(sums) {
         *field = sum.to_le_bytes();

@@ -6,4 +6,4 @@ pub returns : goal.returns
 returns g c =
     heap_blank g.L.Lane.key g.L.Lane.mark g.L.Rank.leb g.met.L.Lane.lawful.blank c.new.result.places
     (length c.args.marks.now) c.fill.new.self c.args.keys.now c.new.ensures
-    (c.fill.ensures.after (λ y e. e)) c.requires
+    (c.fill.ensures.after (λ y e. e))

@@ -8,9 +8,9 @@ pub invariant_of-result : goal.invariant_of-result
 invariant_of-result g c =
     let blank = c.fill.ensures.after (λ y e. e) in (
       (heap_blank forward_key low_mark g.M.Measure.meaning.leb refl c.new.result.places (length c.args.marks.now)
-          c.fill.new.self c.args.keys.now c.new.ensures blank c.requires).holds,
+          c.fill.new.self c.args.keys.now c.new.ensures blank).holds,
       (heap_blank reverse_key high_mark g.M.Measure.meaning.leb refl c.new-2.result.places (length c.args.marks.now)
-          c.fill.new.self c.args.keys.now c.new-2.ensures blank c.requires).holds,
+          c.fill.new.self c.args.keys.now c.new-2.ensures blank).holds,
     )
 
 pub returns : goal.returns
@@ -18,6 +18,6 @@ returns g c =
     let blank = c.fill.ensures.after (λ y e. e) in
     ap₂ (λ x y. (x, y))
     (heap_blank forward_key low_mark g.M.Measure.meaning.leb refl c.new.result.places (length c.args.marks.now)
-    c.fill.new.self c.args.keys.now c.new.ensures blank c.requires).view
+    c.fill.new.self c.args.keys.now c.new.ensures blank).view
     (heap_blank reverse_key high_mark g.M.Measure.meaning.leb refl c.new-2.result.places (length c.args.marks.now)
-    c.fill.new.self c.args.keys.now c.new-2.ensures blank c.requires).view
+    c.fill.new.self c.args.keys.now c.new-2.ensures blank).view

@@ -5,7 +5,7 @@ use Rattle.lists.proofs.Digits.{le_four}
 use Rattle.lists.proofs.Writing.{filled_over}
 use Rattle.blockfile.specs.Blocks.{front, header_front}
 use Rattle.blockfile.proofs.Building.{built}
-use Rattle.blockfile.proofs.block.header.Goals as goal
+use Rattle.blockfile.proofs.block.write_header.Goals as goal
 
 pub returns : goal.returns
 returns c =
@@ -20,4 +20,4 @@ returns c =
     c.put-2.ensures ∙ ap₂ (λ b s. over b 10 s) second (c.to_le_bytes-2.ensures ∙ le_four c.args.total)
     ∙ filled_over 512 10 (start ++ stations) total refl
     in
-    c.seal.ensures ∙ built c.put-2.new.block (start ++ (stations ++ total)) third (omega arith)
+    c.copy_from_slice.ensures.after ∙ c.seal.ensures ∙ built c.put-2.new.block (start ++ (stations ++ total)) third (omega arith)

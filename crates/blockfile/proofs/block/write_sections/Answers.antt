@@ -4,7 +4,7 @@ use Rattle.lists.specs.Writes.{over, filled}
 use Rattle.lists.proofs.Writing.{filled_over}
 use Rattle.blockfile.specs.Blocks.{front, section_front, entry_of}
 use Rattle.blockfile.proofs.Building.{built, length_entries}
-use Rattle.blockfile.proofs.block.section_block.Goals as goal
+use Rattle.blockfile.proofs.block.write_sections.Goals as goal
 
 pub returns : goal.returns
 returns c =
@@ -14,5 +14,5 @@ returns c =
     let second : c.put_rows.new.block ≡ filled 512 (start ++ flat_map entry_of rows) =
     c.put_rows.ensures ∙ ap (λ b. over b 8 (flat_map entry_of rows)) first ∙ filled_over 512 8 start (flat_map entry_of rows) refl
     in
-    c.seal.ensures
+    c.copy_from_slice.ensures.after ∙ c.seal.ensures
     ∙ built c.put_rows.new.block (start ++ flat_map entry_of rows) second (omega (arith, length_entries rows))
