@@ -1,4 +1,5 @@
 // The file layer: a header and the section blocks, written and read in order.
+// Each `as` keeps its number, which the check proves; `try_from` would add an error that never comes.
 
 ghost use Rattle.std.specs.Prelude.{◌≡◌, ◌+◌, ◌*◌, ◌/◌, ◌^◌, ◌<◌, ◌≤◌, true, length, take, IfOk, if◌then◌else◌, Ok, Err, slice_index_or};
 ghost use Rattle.lists.specs.Writes.{over};
