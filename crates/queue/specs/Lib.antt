@@ -4,7 +4,8 @@ pub mod LaneLaws
 pub mod Lanes
 pub mod Marks
 pub mod Layout
-pub mod OrderLaws
+pub mod CountLaws
+pub mod WeightLaws
 pub mod Orders
 pub mod SideLaws
 pub mod Slots

@@ -5,17 +5,17 @@ ghost use Rattle.queue.specs.Slots.{waiting};
 ghost use Rattle.model.specs.declared.slot.Slot.TheVariants.{Free};
 ghost use Rattle.model.specs.declared.slot.Slot.{Slot as SlotOf};
 
-use crate::heap::Queue;
+use crate::heap::Heap;
+use crate::orders::Order;
 use crate::places::Places;
-use crate::rank::Rank;
 use std::marker::PhantomData;
 
-impl<L: Rank<W>, W: Copy> Queue<L, W> {
+impl<L: Order<W>, W: Copy> Heap<L, W> {
     // A queue in which no station waits.
-    pub fn new() -> Queue<L, W>
+    pub fn new() -> Heap<L, W>
         ensures { (n : ℕ) → Holds L.leb result (replicate n Free) }
     {
-        Queue {
+        Heap {
             serves: PhantomData,
             places: Places::new(),
         }

@@ -3,13 +3,13 @@ ghost use Rattle.std.specs.Prelude.{◌≡◌, ◌⊎◌};
 ghost use Rattle.queue.specs.Lanes.{SidesApart, count_key, count_keyed, forward_key, forward_keyed, reverse_key, reverse_keyed};
 ghost use Rattle.queue.specs.Marks.{high_mark, high_marked, low_mark, low_marked, mark_at, marked_at};
 ghost use Rattle.queue.specs.Counts.{no_more};
-ghost use Rattle.queue.specs.OrderLaws.{counts_ordered, weights_ordered};
+ghost use Rattle.queue.specs.CountLaws.{counts_ordered};
 ghost use Rattle.queue.specs.SideLaws.{count_lane, forward_lane, reverse_lane};
 
 use crate::lane::Lane;
 use crate::mark::Mark;
+use crate::orders::Order;
 use crate::rank::{Count, Rank};
-use measure::Measure;
 use model::records::Key;
 
 // Forward weights, with marks in bits 0 and 1.
@@ -125,35 +125,14 @@ impl<M: Copy> Lane<Key<M>, Count> for Counts {
     }
 }
 
-// Forward weights come by the measure's own order.
-impl<M: Measure> Rank<M> for Forward {
-    ghost leb = { M.Measure.meaning.leb };
-
-    ghost lawful = { weights_ordered M.Measure.lawful };
-
-    fn no_worse(a: M, b: M) -> bool {
-        a.no_worse(b)
-    }
-}
-
-// Reverse weights come as forward ones do.
-impl<M: Measure> Rank<M> for Reverse {
-    ghost leb = { M.Measure.meaning.leb };
-
-    ghost lawful = { weights_ordered M.Measure.lawful };
-
-    fn no_worse(a: M, b: M) -> bool {
-        Forward::no_worse(a, b)
-    }
-}
-
-impl Rank<Count> for Counts {
+// Counts come by their own order; weights come by theirs through `ByKey`.
+impl Order<Count> for Counts {
     ghost leb = { no_more };
 
     ghost lawful = { counts_ordered };
 
     fn no_worse(a: Count, b: Count) -> bool {
-        a <= b
+        a.no_worse(b)
     }
 }
 

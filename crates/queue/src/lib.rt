@@ -8,6 +8,7 @@ pub mod lanes;
 pub mod mark;
 pub mod offers;
 pub mod operations;
+pub mod orders;
 mod places;
 pub mod rank;
 pub mod search;

@@ -1,14 +1,17 @@
-// The order in which a queue's keys come, and counts as keys.
+// Keys with a total order.
 ghost use Rattle.std.specs.Prelude.{◌≡◌, Bool};
 ghost use Rattle.queue.specs.Orders.{TotalOrder};
+ghost use Rattle.queue.specs.WeightLaws.{weights_ordered};
 
-// A lane's total order of its keys.
-pub trait Rank<W> {
+use measure::Measure;
+
+// A key with a total order.
+pub trait Rank: Copy {
     // Whether the first key is no worse than the second.
-    ghost leb: { W → W → Bool };
+    ghost leb: { Self → Self → Bool };
 
-    fn no_worse(a: W, b: W) -> bool
-        ensures { result ≡ leb a b };
+    fn no_worse(self, other: Self) -> bool
+        ensures { result ≡ leb self other };
 
     ghost lawful: { TotalOrder leb };
 }
@@ -16,3 +19,27 @@ pub trait Rank<W> {
 // A number of things, as a key: fewer is better.
 #[derive(Clone, Copy, PartialEq, Eq, PartialOrd, Ord, Debug)]
 pub struct Count(pub u32);
+
+impl Rank for Count {
+    ghost use Rattle.queue.specs.Counts.{no_more};
+    ghost use Rattle.queue.specs.CountLaws.{counts_ordered};
+
+    ghost leb = { no_more };
+
+    ghost lawful = { counts_ordered };
+
+    fn no_worse(self, other: Count) -> bool {
+        self <= other
+    }
+}
+
+// The weights of every measure, by its own order.
+impl<M: Measure> Rank for M {
+    ghost leb = { M.Measure.meaning.leb };
+
+    ghost lawful = { weights_ordered M.Measure.lawful };
+
+    fn no_worse(self, other: M) -> bool {
+        Measure::no_worse(self, other)
+    }
+}

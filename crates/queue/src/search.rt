@@ -4,23 +4,22 @@ ghost use Rattle.model.specs.declared.slot.Slot.TheVariants.{Free, Waits};
 ghost use Rattle.model.specs.Slots.{least};
 ghost use Rattle.queue.specs.Slots.{may_offer, slots_settled, waiting};
 
-use crate::heap::Queue;
+use crate::heap::Heap;
 use crate::lane::Lane;
-use crate::offers::{offer, start};
 use crate::operations::slot_at;
-use crate::rank::Rank;
+use crate::orders::Order;
 use model::slot::Slot;
 use std::marker::Model;
 
 // One queue and the tables it works on, as long as no other queue does: seen as what it knows of every station.
 #[derive(Drop)]
-pub struct Search<'a, L: Lane<R, W> + Rank<W>, R: Copy, W: Copy> {
-    queue: Queue<L, W>,
+pub struct Search<'a, L: Lane<R, W> + Order<W>, R: Copy, W: Copy> {
+    queue: Heap<L, W>,
     marks: &'a mut [u8],
     keys: &'a mut [R],
 }
 
-impl<'a, L: Lane<R, W> + Rank<W>, R: Copy, W: Copy> Model for Search<'a, L, R, W> {
+impl<'a, L: Lane<R, W> + Order<W>, R: Copy, W: Copy> Model for Search<'a, L, R, W> {
     ghost use Rattle.std.specs.Prelude.{List};
     ghost use Rattle.model.specs.declared.slot.Slot.{Slot as SlotOf};
     ghost use Rattle.queue.specs.Heap.{Holds};
@@ -33,12 +32,12 @@ impl<'a, L: Lane<R, W> + Rank<W>, R: Copy, W: Copy> Model for Search<'a, L, R, W
     ghost invariant = { λ s. Holds L.leb s.queue (slots L.key L.mark s.marks.now s.keys.now) };
 }
 
-impl<'a, L: Lane<R, W> + Rank<W>, R: Copy, W: Copy> Search<'a, L, R, W> {
+impl<'a, L: Lane<R, W> + Order<W>, R: Copy, W: Copy> Search<'a, L, R, W> {
     // Blanks the marks; no station waits.
     pub fn new(marks: &'a mut [u8], keys: &'a mut [R]) -> Search<'a, L, R, W>
         ensures { result ≡ replicate (min (length marks.old) (length keys.old)) Free }
     {
-        let queue = start::<L, R, W>(marks, keys);
+        let queue = Heap::over(marks, keys);
         Search { queue, marks, keys }
     }
 
@@ -83,7 +82,7 @@ impl<'a, L: Lane<R, W> + Rank<W>, R: Copy, W: Copy> Search<'a, L, R, W> {
         ensures answer { result ≡ may_offer L.leb self.old s k }
         ensures view { self.new ≡ (if result then slice_set self.old s (Waits k) else self.old) }
     {
-        offer(&mut self.queue, self.marks, self.keys, s, k)
+        self.queue.offer(self.marks, self.keys, s, k)
     }
 
     // Takes the first station out and settles it.

@@ -2,11 +2,11 @@
 
 use model::slot::Slot;
 use queue::lane::Lane;
-use queue::rank::Rank;
+use queue::orders::Order;
 use queue::search::Search;
 
 // The waiting station with the best key, the lowest at a tie.
-pub fn least<L: Lane<R, W> + Rank<W>, R: Copy, W: Copy>(
+pub fn least<L: Lane<R, W> + Order<W>, R: Copy, W: Copy>(
     search: &Search<'_, L, R, W>,
 ) -> Option<(usize, W)> {
     (0..search.stations())
@@ -22,7 +22,7 @@ pub fn least<L: Lane<R, W> + Rank<W>, R: Copy, W: Copy>(
 }
 
 // How many stations wait.
-pub fn waiting<L: Lane<R, W> + Rank<W>, R: Copy, W: Copy>(search: &Search<'_, L, R, W>) -> usize {
+pub fn waiting<L: Lane<R, W> + Order<W>, R: Copy, W: Copy>(search: &Search<'_, L, R, W>) -> usize {
     (0..search.stations())
         .filter(|s| matches!(search.slot(*s), Slot::Waits(_)))
         .count()

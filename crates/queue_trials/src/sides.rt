@@ -61,8 +61,8 @@ impl<'a, M: Measure> Sides<'a, M> {
         let keys = &mut *self.keys;
         let room = ROOM.min(marks.len()).min(keys.len());
         if s >= room
-            || !takes::<Forward, M>(slot_at::<Forward, Key<M>, M>(marks, keys, s), k)
-            || !takes::<Reverse, M>(slot_at::<Reverse, Key<M>, M>(marks, keys, s), k)
+            || !takes(slot_at::<Forward, Key<M>, M>(marks, keys, s), k)
+            || !takes(slot_at::<Reverse, Key<M>, M>(marks, keys, s), k)
         {
             return false;
         }

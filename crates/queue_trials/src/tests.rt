@@ -6,7 +6,10 @@ use measure::Measure;
 use measure::ticks::Ticks;
 use model::records::Key;
 use queue::heap::ROOM;
+use queue::lanes::Forward;
+use queue::orders::ByKey;
 use queue::rank::Count;
+use queue::search::Search;
 
 // Blank key records.
 fn blank<const N: usize>() -> [Key<Ticks>; N] {
@@ -114,6 +117,16 @@ fn every_station_comes_out_in_its_place(rt: HostRuntime) {
     let mut queue = Counted::new(&mut marks, &mut keys);
     assert_eq!(rt; enter_all(&mut queue), 2048);
     assert_eq!(rt; take_all(&mut queue), 2048);
+}
+
+#[test]
+fn weights_come_by_their_own_order(rt: HostRuntime) {
+    let mut marks = [0; 8];
+    let mut keys = blank::<8>();
+    let mut search = Search::<'_, ByKey<Forward>, Key<Ticks>, Ticks>::new(&mut marks, &mut keys);
+    assert!(rt; search.offer(1, ticks(7)));
+    assert!(rt; search.offer(2, ticks(5)));
+    assert_eq!(rt; search.take(), Some((2, ticks(5))));
 }
 
 #[test]

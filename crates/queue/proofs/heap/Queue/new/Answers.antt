@@ -1,5 +1,0 @@
-use Rattle.queue.proofs.Views.{heap_none}
-use Rattle.queue.proofs.heap.Queue.new.Goals as goal
-
-pub returns : goal.returns
-returns g c n = heap_none g.L.Rank.leb c.new.result n c.new.ensures
