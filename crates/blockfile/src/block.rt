@@ -1,7 +1,7 @@
 // The block layer: 512 bytes with a front, fields or records, and two check sums.
 // Each `as` keeps its number, which the check proves; `try_from` would add an error that never comes.
 
-ghost use Rattle.std.specs.Prelude.{◌≡◌, ◌+◌, ◌*◌, ◌<◌, ◌≤◌, length, take};
+ghost use Rattle.std.specs.Prelude.{◌≡◌, ◌+◌, ◌<◌, ◌≤◌, length, take};
 ghost use Rattle.std.specs.List.{flat_map};
 ghost use Rattle.lists.specs.Writes.{over};
 ghost use Rattle.lists.specs.Places.{first_fault};
@@ -22,18 +22,15 @@ pub(crate) type Block = [u8; BLOCK];
 // What a block is; a byte of its front says so.
 #[derive(Clone, Copy)]
 enum Kind {
-    Header,
-    Sections,
+    Header = 1,
+    Sections = 2,
 }
 
 impl From<Kind> for u8 {
     ghost from_gives = { λ kind byte. byte ≡ kind_byte kind };
 
     fn from(kind: Kind) -> u8 {
-        match kind {
-            Kind::Header => 1,
-            Kind::Sections => 2,
-        }
+        kind as u8
     }
 }
 
@@ -143,7 +140,8 @@ fn put_rows(block: &mut Block, rows: &[Row])
     }
 }
 
-// Fills a part of a file with the header of `n` stations and `total` sections.
+// Fills a part of a file with the header of `n` stations and `total` sections. A rule of the project: each block is filled as
+// its own part of the buffer, so that two writers ask for its length.
 pub(crate) fn write_header(out: &mut [u8], n: u16, code: u8, total: u32)
     requires { length out.old ≡ 512 }
     ensures { out.new ≡ header n code total }
@@ -262,7 +260,7 @@ impl Reader {
         row.low < row.high && usize::from(row.high) < self.stations && readable && follows
     }
 
-    // Judges the records in order; the number of a place names its bytes.
+    // Judges the records in order; a fault names the first byte of its record, so their places are counted.
     fn check_records<N: Numbers>(self, block: &Block, place: Place) -> Result<(), Flaw>
         ensures { result ≡ first_fault (record_judged self.stations N.Numbers.readable place.before block.now) place.count 0 }
     {

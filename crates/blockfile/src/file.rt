@@ -1,10 +1,10 @@
 // The file layer: a header and the section blocks, written and read in order.
 // Each `as` keeps its number, which the check proves; `try_from` would add an error that never comes.
 
-ghost use Rattle.std.specs.Prelude.{◌≡◌, ◌+◌, ◌*◌, ◌/◌, ◌^◌, ◌<◌, ◌≤◌, true, length, take, IfOk, if◌then◌else◌, Ok, Err, slice_index_or};
+ghost use Rattle.std.specs.Prelude.{◌≡◌, ◌+◌, ◌*◌, ◌^◌, ◌<◌, ◌≤◌, true, length, take, IfOk, if◌then◌else◌, Ok, Err, slice_index_or};
 ghost use Rattle.lists.specs.Writes.{over};
 ghost use Rattle.blockfile.specs.Judging.{blocks_for};
-ghost use Rattle.blockfile.specs.Files.{chunk, section_part, file_of, file_size, whole_blocks, has_room, block_at, total_in, row_of, rows_of, sections_of_file_judged, file_judged};
+ghost use Rattle.blockfile.specs.Files.{section_part, file_of, file_size, whole_blocks, has_room, block_at, total_in, row_of, rows_of, sections_of_file_judged, file_judged};
 ghost use Rattle.blockfile.specs.Laws.{ReadsBack, Accepted};
 ghost use Rattle.blockfile.specs.Rows.{blank_row};
 

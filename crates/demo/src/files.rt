@@ -19,7 +19,7 @@ impl<M: Measure> Numbers for ReadBy<M> {
     }
 }
 
-// The row of a section, as far as its ends have two bytes each.
+// The row of a section, as far as its ends have two bytes each. Neither type is of this crate, so that no `TryFrom` can stand here.
 fn row_of<M: Measure>(section: &Section<M>) -> anyhow::Result<Row> {
     Ok(Row {
         low: u16::try_from(section.low)?,

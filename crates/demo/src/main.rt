@@ -18,7 +18,7 @@ use sections::by_sections;
 use std::fmt::Display;
 use walks::steps;
 
-// A measure that prints, and that says what a bare figure weighs in it.
+// A measure that prints, and that says what a bare figure weighs in it. No measure is of this crate, so that no `TryFrom` can stand here.
 trait Figured: Measure + Display {
     fn of_figure(figure: u32) -> Option<Self>;
 }

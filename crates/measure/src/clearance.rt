@@ -17,7 +17,7 @@ pub struct Clearance {
 impl Clearance {
     ghost use Rattle.measure.specs.Clearance.{clearance_if};
 
-    // That much clearance, or nothing beyond the top.
+    // That much clearance, or nothing beyond the top: one way to fail, as for ticks.
     pub fn new(value: u32) -> Option<Clearance>
         ensures { result ≡ clearance_if value }
     {

@@ -34,7 +34,7 @@ pub fn best_of<M: Measure>(weights: &[M]) -> M
         .fold(M::no_way(), |best, w| better_of_two(best, *w))
 }
 
-// Every measure keeps the laws.
+// Every measure keeps the laws. The answer is promised so that a test can read it.
 pub fn laws_hold<M: Measure>() -> bool
     ensures answer { result ≡ true }
     ensures lawful { Lawful M.Measure.meaning }
@@ -42,7 +42,7 @@ pub fn laws_hold<M: Measure>() -> bool
     true
 }
 
-// Under a house measure no walk without a repeated station comes to no way.
+// Under a house measure no walk without a repeated station comes to no way. The answer is promised as above.
 pub fn walks_carry<M: HouseMeasure>() -> bool
     ensures answer { result ≡ true }
     ensures carries { Carries M.Measure.meaning }

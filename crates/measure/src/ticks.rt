@@ -20,7 +20,7 @@ pub struct Ticks {
 impl Ticks {
     ghost use Rattle.measure.specs.Ticks.{ticks_if};
 
-    // That many ticks, or nothing beyond the top: one way to fail, so that an error type of a `TryFrom` would add only a name.
+    // That many ticks, or nothing beyond the top: one way to fail, so a `TryFrom` beside it would say nothing more.
     pub fn new(value: u64) -> Option<Ticks>
         ensures { result ≡ ticks_if value }
     {

@@ -22,7 +22,7 @@ pub struct Trip {
 impl Trip {
     ghost use Rattle.measure.specs.Trip.{trip_if};
 
-    // A trip of that many ticks and transfers, or nothing where they are no weight.
+    // A trip of that many ticks and transfers, or nothing where they are no weight: one way to fail, as for ticks.
     pub fn new(ticks: u64, transfers: u32) -> Option<Trip>
         ensures { result ≡ trip_if ticks transfers }
     {

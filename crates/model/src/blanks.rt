@@ -1,4 +1,5 @@
-// The blank record of each table. No function is generic over them, so a trait would add a bound and say nothing more.
+// The blank record of each table. The records differ in their fields, and what fills a table takes any value: a trait would only move
+// these five bodies.
 ghost use Rattle.std.specs.Prelude.{◌≡◌};
 ghost use Rattle.model.specs.Records.{blank_section, blank_station, blank_leg, blank_entry, blank_key};
 

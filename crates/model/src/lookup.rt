@@ -5,7 +5,7 @@ ghost use Rattle.model.specs.Sections.{same_ends, weight_of};
 use crate::ends::Ends;
 use crate::records::Section;
 
-// Whether a section has these ends.
+// Whether a section has these ends: any two numbers, of which the lower need not come first.
 pub fn has_ends<M: Copy>(section: &Section<M>, low: usize, high: usize) -> bool
     ensures { result ≡ same_ends section.now.low section.now.high low high }
 {

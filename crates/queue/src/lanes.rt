@@ -24,8 +24,7 @@ pub struct Reverse;
 #[derive(Clone, Copy)]
 pub struct Counts;
 
-// The mark in the two bits of which the lower counts as `UNIT`. Each lane names its unit; a body in the trait would fix
-// for every lane how it marks.
+// The mark in two bits of a byte, `UNIT` being what the lower of them counts.
 fn mark_at<const UNIT: u8>(byte: u8) -> Mark
     requires { (UNIT ≡ 1) ⊎ (UNIT ≡ 4) }
     ensures { result ≡ mark_at UNIT byte }
@@ -41,6 +40,8 @@ fn with_mark_at<const UNIT: u8>(byte: u8, m: Mark) -> u8
     byte / (4 * UNIT) * (4 * UNIT) + u8::from(m) * UNIT + byte % UNIT
 }
 
+// The lanes differ in their key, their unit and their order. A trait that held their two methods on marks would ask every lane for
+// a unit.
 impl<M: Copy> Lane<Key<M>, M> for Forward {
     ghost key = { forward_key };
 

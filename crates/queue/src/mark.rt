@@ -5,12 +5,12 @@ ghost use Rattle.queue.specs.Slots.{slot};
 
 use model::slot::Slot;
 
-// A slot without its key; as `Slot<()>` each mark and each number of one would carry a `()`.
+// A slot without its key. As `Slot<()>` it would carry a `()` wherever it is made or read.
 #[derive(Clone, Copy)]
 pub enum Mark {
-    Blank,
-    Waiting,
-    Settled,
+    Blank = 0,
+    Waiting = 1,
+    Settled = 2,
 }
 
 impl Mark {
@@ -26,7 +26,7 @@ impl Mark {
     }
 }
 
-// The mark that two bits stand for.
+// The mark that two bits stand for; none but 0 to 2 are ever written.
 impl From<u8> for Mark {
     ghost from_gives = { λ bits m. m ≡ mark_numbered bits };
 
@@ -44,10 +44,6 @@ impl From<Mark> for u8 {
     ghost from_gives = { λ m bits. bits ≡ mark_number m };
 
     fn from(mark: Mark) -> u8 {
-        match mark {
-            Mark::Blank => 0,
-            Mark::Waiting => 1,
-            Mark::Settled => 2,
-        }
+        mark as u8
     }
 }

@@ -7,7 +7,8 @@ ghost use Rattle.queue.specs.Layout.{Layout};
 pub const ROOM: usize = 2048;
 
 // `items` lists the stations, `at` says where each stands, and the first `len` of `items` wait. Two arrays, since memory
-// is fixed and a station whose key improves has to be found.
+// is fixed and a station whose key improves has to be found. A station is a plain number for callers, so that a call on one asks that
+// it is below 2,048.
 #[derive(Drop)]
 pub(crate) struct Places {
     items: [u16; ROOM],

@@ -6,8 +6,11 @@ ghost use Rattle.queue.specs.Slots.{may_offer, slots_settled, waiting};
 
 use crate::heap::Heap;
 use crate::lane::Lane;
+use crate::lanes::Counts;
 use crate::operations::slot_at;
 use crate::orders::Order;
+use crate::rank::Count;
+use model::records::Key;
 use model::slot::Slot;
 use std::marker::Model;
 
@@ -18,6 +21,9 @@ pub struct Search<'a, L: Lane<R, W> + Order<W>, R: Copy, W: Copy> {
     marks: &'a mut [u8],
     keys: &'a mut [R],
 }
+
+// A search by counts over the key records of the index.
+pub type ByCount<'a, M> = Search<'a, Counts, Key<M>, Count>;
 
 impl<'a, L: Lane<R, W> + Order<W>, R: Copy, W: Copy> Model for Search<'a, L, R, W> {
     ghost use Rattle.std.specs.Prelude.{List};

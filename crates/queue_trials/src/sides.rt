@@ -12,7 +12,8 @@ use queue::offers::takes;
 use queue::operations::slot_at;
 use std::marker::Model;
 
-// A queue for each side and the tables that they share: seen as what each side knows of every station.
+// A queue for each side and the tables that they share: seen as what each side knows of every station. Both write one pair of tables, so
+// that neither can hold them alone, as a `Search` does.
 #[derive(Drop)]
 pub struct Sides<'a, M: Measure> {
     forward: Queue<Forward, M>,

@@ -1,7 +1,6 @@
 // The queue on small cases.
 
 use crate::sides::Sides;
-use crate::trial::Counted;
 use measure::Measure;
 use measure::ticks::Ticks;
 use model::records::Key;
@@ -9,7 +8,7 @@ use queue::heap::ROOM;
 use queue::lanes::Forward;
 use queue::orders::ByKey;
 use queue::rank::Count;
-use queue::search::Search;
+use queue::search::{ByCount, Search};
 
 // Blank key records.
 fn blank<const N: usize>() -> [Key<Ticks>; N] {
@@ -25,7 +24,7 @@ fn ticks(n: u64) -> Ticks {
 fn nothing_waits_at_first(rt: HostRuntime) {
     let mut marks = [0; 8];
     let mut keys = blank::<8>();
-    let mut queue = Counted::new(&mut marks, &mut keys);
+    let mut queue = ByCount::new(&mut marks, &mut keys);
     assert!(rt; queue.is_empty());
     assert_eq!(rt; queue.len(), 0);
     assert_eq!(rt; queue.first(), None);
@@ -36,7 +35,7 @@ fn nothing_waits_at_first(rt: HostRuntime) {
 fn one_station_comes_and_goes(rt: HostRuntime) {
     let mut marks = [0; 8];
     let mut keys = blank::<8>();
-    let mut queue = Counted::new(&mut marks, &mut keys);
+    let mut queue = ByCount::new(&mut marks, &mut keys);
     assert!(rt; queue.offer(3, Count(5)));
     assert_eq!(rt; queue.len(), 1);
     assert_eq!(rt; queue.take(), Some((3, Count(5))));
@@ -49,7 +48,7 @@ fn one_station_comes_and_goes(rt: HostRuntime) {
 fn equal_keys_go_by_number(rt: HostRuntime) {
     let mut marks = [0; 8];
     let mut keys = blank::<8>();
-    let mut queue = Counted::new(&mut marks, &mut keys);
+    let mut queue = ByCount::new(&mut marks, &mut keys);
     assert!(rt; queue.offer(5, Count(4)));
     assert!(rt; queue.offer(2, Count(4)));
     assert!(rt; queue.offer(7, Count(4)));
@@ -62,7 +61,7 @@ fn equal_keys_go_by_number(rt: HostRuntime) {
 fn a_better_key_comes_to_the_top(rt: HostRuntime) {
     let mut marks = [0; 8];
     let mut keys = blank::<8>();
-    let mut queue = Counted::new(&mut marks, &mut keys);
+    let mut queue = ByCount::new(&mut marks, &mut keys);
     assert!(rt; queue.offer(1, Count(9)));
     assert!(rt; queue.offer(2, Count(5)));
     assert!(rt; queue.offer(1, Count(3)));
@@ -74,7 +73,7 @@ fn a_better_key_comes_to_the_top(rt: HostRuntime) {
 fn an_equal_key_changes_nothing(rt: HostRuntime) {
     let mut marks = [0; 8];
     let mut keys = blank::<8>();
-    let mut queue = Counted::new(&mut marks, &mut keys);
+    let mut queue = ByCount::new(&mut marks, &mut keys);
     assert!(rt; queue.offer(6, Count(5)));
     assert!(rt; queue.offer(4, Count(5)));
     assert!(rt; queue.offer(6, Count(5)));
@@ -84,7 +83,7 @@ fn an_equal_key_changes_nothing(rt: HostRuntime) {
 }
 
 // Enters every station, with counts that jump about and come twice each, and says how many were entered.
-fn enter_all(queue: &mut Counted<'_>) -> usize {
+fn enter_all(queue: &mut ByCount<'_, Ticks>) -> usize {
     let mut n = 0;
     for s in 0..2048u32 {
         // A `usize` has no `From<u32>`.
@@ -96,7 +95,7 @@ fn enter_all(queue: &mut Counted<'_>) -> usize {
 }
 
 // Takes every station, and says how many came in their place: by count, at equal counts by number.
-fn take_all(queue: &mut Counted<'_>) -> usize {
+fn take_all(queue: &mut ByCount<'_, Ticks>) -> usize {
     let mut n = 0;
     let mut last = (Count(0), 0);
     for _ in 0..ROOM {
@@ -114,7 +113,7 @@ fn take_all(queue: &mut Counted<'_>) -> usize {
 fn every_station_comes_out_in_its_place(rt: HostRuntime) {
     let mut marks = [0; ROOM];
     let mut keys = blank::<ROOM>();
-    let mut queue = Counted::new(&mut marks, &mut keys);
+    let mut queue = ByCount::new(&mut marks, &mut keys);
     assert_eq!(rt; enter_all(&mut queue), 2048);
     assert_eq!(rt; take_all(&mut queue), 2048);
 }

@@ -4,17 +4,13 @@ ghost use Rattle.std.specs.Prelude.{◌≤◌};
 use crate::scan::{least, waiting};
 use measure::ticks::Ticks;
 use model::records::Key;
-use queue::lanes::Counts;
 use queue::rank::Count;
-use queue::search::Search;
+use queue::search::ByCount;
 
 // Few stations and few counts, so that ties and better keys are common.
 pub const STATIONS: usize = 64;
 
 const TURNS: u32 = 250;
-
-// A search by counts.
-pub type Counted<'a> = Search<'a, Counts, Key<Ticks>, Count>;
 
 // The next pseudo-random number.
 fn next(x: u32) -> u32 {
@@ -22,7 +18,7 @@ fn next(x: u32) -> u32 {
 }
 
 // Takes a station out or offers one, and says whether queue and scan agree.
-fn turn(search: &mut Counted<'_>, x: u32) -> bool {
+fn turn(search: &mut ByCount<'_, Ticks>, x: u32) -> bool {
     if x / 16_777_216 % 3 == 0 {
         let by_scan = least(search);
         return search.take() == by_scan;
@@ -35,7 +31,7 @@ fn turn(search: &mut Counted<'_>, x: u32) -> bool {
 }
 
 // Plays the turns of one round, and gives how many agreed and the last number.
-fn play(search: &mut Counted<'_>, seed: u32) -> (u32, u32)
+fn play(search: &mut ByCount<'_, Ticks>, seed: u32) -> (u32, u32)
     ensures { result.0 ≤ 250 }
 {
     let mut x = seed;
@@ -55,6 +51,6 @@ pub fn round(seed: u32) -> (u32, u32)
 {
     let mut marks = [0; STATIONS];
     let mut keys = [Key::<Ticks>::blank(); STATIONS];
-    let mut search = Counted::new(&mut marks, &mut keys);
+    let mut search = ByCount::new(&mut marks, &mut keys);
     play(&mut search, seed)
 }

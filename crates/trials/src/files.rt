@@ -7,7 +7,7 @@ use blockfile::numbers::Numbers;
 use blockfile::row::Row;
 use std::test::Fail;
 
-// Numbers as the ticks of a section: 1 to 1,000,000.
+// Numbers as the ticks of a section, 1 to 1,000,000: said again here, so that a test of files needs no measure.
 struct Ticks;
 
 impl Numbers for Ticks {
@@ -24,8 +24,10 @@ const SECTION: Row = Row {
     number: 7,
 };
 
-// The total of an accepted file, or the refusal's number, the block and the byte.
-fn judged(file: &[u8]) -> Result<usize, (u8, usize, usize)> {
+// The total of an accepted file, or the refusal's number, the block and the byte: numbers, since the rules name these.
+type Verdict = Result<usize, (u8, usize, usize)>;
+
+fn judged(file: &[u8]) -> Verdict {
     check_file::<Ticks>(file, 100, 1).map_err(|fault| (
         fault.refusal().number(),
         fault.block(),
@@ -76,23 +78,22 @@ fn lengths(rt: HostRuntime) {
     assert_eq!(rt; judged(&file[0..513]), Err((11, 0, 0)));
 }
 
-// Puts the check sums right: the second adds up what the first is after each word.
+// Puts the check sums right: the second weighs each word by how many stand from it on. A test computes what it tests in its own way.
 fn reseal(block: &mut [u8; 512]) {
     let mut first: u64 = 0;
     let mut second: u64 = 0;
-    for word in block[..508].as_chunks().0 {
-        first = first.wrapping_add(u64::from(u16::from_le_bytes(*word)));
-        second = second.wrapping_add(first);
+    for (word, weight) in block[..508].as_chunks().0.iter().zip((1..=254u64).rev()) {
+        let word = u64::from(u16::from_le_bytes(*word));
+        first = first.wrapping_add(word);
+        second = second.wrapping_add(weight.wrapping_mul(word));
     }
-    // Remainders below 65,535, which fit.
-    let sums = [(first % 65535) as u16, (second % 65535) as u16];
-    for (field, sum) in block[508..].as_chunks_mut().0.iter_mut().zip(sums) {
-        *field = sum.to_le_bytes();
-    }
+    // Remainders below 65,535 fit.
+    block[508..510].copy_from_slice(&((first % 65535) as u16).to_le_bytes());
+    block[510..].copy_from_slice(&((second % 65535) as u16).to_le_bytes());
 }
 
 // What a file of one section is called after a byte of it became another, under right check sums.
-fn spoiled(at: usize, byte: u8) -> Result<Result<usize, (u8, usize, usize)>, Fail> {
+fn spoiled(at: usize, byte: u8) -> Result<Verdict, Fail> {
     let mut blocks = [[0u8; 512]; 2];
     let file = blocks.as_flattened_mut();
     write_file(file, 100, 1, &[SECTION])?;
@@ -106,7 +107,7 @@ fn spoiled(at: usize, byte: u8) -> Result<Result<usize, (u8, usize, usize)>, Fai
 }
 
 // A byte that is changed, what it becomes, and what the file is then called.
-const DAMAGE: [(usize, u8, Result<usize, (u8, usize, usize)>); 17] = [
+const DAMAGE: [(usize, u8, Verdict); 17] = [
     (0, 0, Ok(1)),
     (0, 1, Err((13, 0, 0))),
     (6, 2, Err((14, 0, 6))),

@@ -1,18 +1,17 @@
-use Rattle.std.proofs.Common.{◌≡◌, [], ◌∷◌, ◌++◌, length, replicate, sym, ap, ◌∙◌, arith}
-use Rattle.std.proofs.lemmas.List.{length-set, replicate_more, take_all, take_more_set}
+use Rattle.std.proofs.Common.{◌≡◌, [], ◌∷◌, ◌++◌, length, replicate, refl, sym, ap, ◌∙◌, rules}
+use Rattle.std.proofs.lemmas.Fn.{chained_keeps}
+use Rattle.std.proofs.lemmas.List.{length_push, replicate_more}
 use Rattle.tables.proofs.filling.fill.Goals as goal
-
-pub loop-item-preserved : goal.loop-item-preserved
-loop-item-preserved g c =
-    let i = c.loop-item.item-index in
-    let ys = c.loop-item.table in
-    let y = c.args.blank in (
-      simp length-set (omega arith),
-      take_more_set ys i y (omega arith) ∙ ap (λ zs. zs ++ y ∷ []) c.loop-item.invariant.1 ∙ replicate_more i y,
-    )
 
 pub returns : goal.returns
 returns g c =
-    let i = c.loop-item.item-index in
-    let end : i ≡ length c.args.table.now = omega arith in
-    sym (take_all i c.loop-item.table (omega arith)) ∙ c.loop-item.invariant.1 ∙ ap (λ n. replicate n c.args.blank) end
+    let blank = c.args.blank in
+    let blanks = chained_keeps _ (λ xs q. (xs ≡ replicate (length xs) blank) × (q.0.now ≡ blank))
+    (λ xs q x v j r.
+    let given : (x ≡ q.0.now) × (v ≡ q) = search rules in (
+      ap (λ zs. zs ++ x ∷ []) j.0 ∙ ap (λ y. replicate (length xs) blank ++ y ∷ []) (given.0 ∙ j.1)
+          ∙ replicate_more (length xs) blank ∙ ap (λ n. replicate n blank) (sym (length_push xs x)),
+      ap (λ f. f.0.now) given.1 ∙ j.1,
+    ))
+    _ _ _ (refl, refl) c.fill_with.ensures.ran.1 in
+    blanks.0 ∙ ap (λ n. replicate n blank) c.fill_with.ensures.len
