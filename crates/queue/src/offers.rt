@@ -1,5 +1,5 @@
-// A queue over its tables, for callers that test before they put. The tables come apart from the queue, since two queues
-// may share them; where one has them to itself, `Search` holds all three.
+// A queue over its tables, for callers that test before they put. Marks and keys are two tables of the index, and come apart from the
+// queue, since two queues may share them; where one has them to itself, `Search` holds all three.
 ghost use Rattle.std.specs.Prelude.{◌≡◌, min, length, if◌then◌else◌, replicate, slice_set};
 ghost use Rattle.model.specs.declared.slot.Slot.TheVariants.{Free, Waits};
 ghost use Rattle.queue.specs.Heap.{Holds};
