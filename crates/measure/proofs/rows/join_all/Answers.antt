@@ -10,4 +10,4 @@ returns g c =
     subst (λ ws. c.fold.result ≡ joined m ws) c.iter.ensures.rest
     (fold_over fronts (λ w. w.now) _ (λ ws sum. sum ≡ joined m ws) _
     (λ ws a w b f' j k. let more = total_push (joining g.met.M.Measure.lawful) ws w.now in search rules)
-    _ _ _ _ (slice_gives c.iter.result) c.free.ensures c.fold.ensures.ran)
+    _ _ _ _ (slice_gives c.iter.result) (search rules) c.fold.ensures.ran)
