@@ -27,7 +27,7 @@ pub fn find<M: Copy>(sections: &[Section<M>], ends: Ends) -> usize
 pub fn has_at<M: Copy>(sections: &[Section<M>], place: usize, ends: Ends) -> bool
     ensures { result ≡ has_at place ends.low ends.high sections.now }
 {
-    // With `is_some_and` the proof did not close: the check keeps too little of what its closure answers.
+    // `is_some_and` was tried here, and its proof did not close.
     let Some(section) = sections.get(place) else {
         return false;
     };
