@@ -1,9 +1,8 @@
 -- The place of a section among sections in ascending order. Assumes nothing.
-use Rattle.std.proofs.Common.{◌≡◌, ℕ, zero, suc, ◌<◌, ◌≤◌, Bool, true, false, cond, List, [], ◌∷◌, length, get_or, set, is_some, Some, None, Option, sym, refl, ap, ◌∙◌, arith}
+use Rattle.std.proofs.Common.{◌≡◌, ℕ, zero, suc, ◌<◌, ◌≤◌, Bool, true, false, cond, List, [], ◌∷◌, length, get_or, set, is_some, Some, None, Option, sym, refl, ap, ◌∙◌, subst, arith}
 use Rattle.std.proofs.lemmas.Bool.{and_parts, cond_both, cond-false, cond-true, true≢false}
 use Rattle.std.proofs.lemmas.Bool.Decides.{nat_tests}
 use Rattle.std.specs.List.{insert, remove}
-use Rattle.std.specs.List.Sorted.{IsPartitionPoint, IsPartitionedBy}
 use Rattle.model.proofs.Ordering.{absent, before_trans, rises_earlier}
 use Rattle.model.specs.Sections.{ends_before, place_of, placed, rises_from, same_ends, weight_of, without}
 use Rattle.model.specs.declared.records.Section.{Section}
@@ -34,33 +33,37 @@ both_none false w later h = (refl, h)
 
 module _ {W : Type 0} where
   -- each section comes after the ends from which they rise
-  rises_at : (a b : ℕ) (ss : List (Section W)) (i : ℕ) (d : Section W) → rises_from a b ss ≡ true → i < length ss → ends_before a b (get_or ss i d).low (get_or ss i d).high ≡ true
-  rises_at a b [] i d q within = none_below i within
-  rises_at a b (x ∷ ss) zero d q within = (and_parts (ends_before a b x.low x.high) (rises_from x.low x.high ss) q).0
-  rises_at a b (x ∷ ss) (suc i) d q within =
+  rises_at : (a b : ℕ) (ss : List (Section W)) (i : ℕ) (s : Section W) → rises_from a b ss ≡ true → i < length ss → s ≡ get_or ss i s → ends_before a b s.low s.high ≡ true
+  rises_at a b [] i s q within read = none_below i within
+  rises_at a b (x ∷ ss) zero s q within read =
       let (first, rest) = and_parts (ends_before a b x.low x.high) (rises_from x.low x.high ss) q in
-      rises_at a b ss i d (rises_earlier a b x.low x.high ss first rest) (omega arith)
+      subst (λ (z : Section W). ends_before a b z.low z.high ≡ true) (sym read) first
+  rises_at a b (x ∷ ss) (suc i) s q within read =
+      let (first, rest) = and_parts (ends_before a b x.low x.high) (rises_from x.low x.high ss) q in
+      rises_at a b ss i s (rises_earlier a b x.low x.high ss first rest) (omega arith) read
 
-  -- of sections in order those that come before the ends come first
-  pub before_first : (a b low high : ℕ) (ss : List (Section W)) → rises_from a b ss ≡ true → IsPartitionedBy (λ s. ends_before s.low s.high low high) ss
-  before_first a b low high [] q i j d le within before = none_below j within
-  before_first a b low high (x ∷ ss) q zero zero d le within before = before
-  before_first a b low high (x ∷ ss) q zero (suc j) d le within before =
+  -- a section that comes before the ends stands below their place
+  pub below_place : (a b low high : ℕ) (ss : List (Section W)) (i : ℕ) (s : Section W) → rises_from a b ss ≡ true → i < length ss → s ≡ get_or ss i s → ends_before s.low s.high low high ≡ true → i < place_of low high ss
+  below_place a b low high [] i s q within read before = none_below i within
+  below_place a b low high (x ∷ ss) zero s q within read before =
+      let place = cond-true (ends_before x.low x.high low high) (suc (place_of low high ss)) 0 (subst (λ (z : Section W). ends_before z.low z.high low high ≡ true) read before) in
+      omega arith
+  below_place a b low high (x ∷ ss) (suc i) s q within read before =
       let (first, rest) = and_parts (ends_before a b x.low x.high) (rises_from x.low x.high ss) q in
-      let s = get_or ss j d in
-      before_trans x.low x.high s.low s.high low high (rises_at x.low x.high ss j d rest (omega arith)) before
-  before_first a b low high (x ∷ ss) q (suc i) zero d le within before = none_below i (omega arith)
-  before_first a b low high (x ∷ ss) q (suc i) (suc j) d le within before =
-      let (first, rest) = and_parts (ends_before a b x.low x.high) (rises_from x.low x.high ss) q in
-      before_first x.low x.high low high ss rest i j d (omega arith) (omega arith) before
+      let below = rises_at x.low x.high ss i s rest (omega arith) read in
+      let place = cond-true (ends_before x.low x.high low high) (suc (place_of low high ss)) 0 (before_trans x.low x.high s.low s.high low high below before) in
+      let later = below_place x.low x.high low high ss i s rest (omega arith) read before in
+      omega arith
 
-  -- their place lies where these end
-  pub parts_at_place : (low high : ℕ) (ss : List (Section W)) (i : ℕ) → i ≤ length ss → IsPartitionPoint (λ s. ends_before s.low s.high low high ≡ true) (λ s. ends_before s.low s.high low high ≡ false) ss i → i ≡ place_of low high ss
-  parts_at_place low high [] i within parts = omega arith
-  parts_at_place low high (x ∷ ss) zero within (before, after) = sym (cond-false _ _ _ (after 0 x (omega arith) (omega arith)))
-  parts_at_place low high (x ∷ ss) (suc i) within (before, after) =
-      let later = parts_at_place low high ss i (omega arith) (λ k d l h. before (suc k) d (omega arith) (omega arith), λ k d l h. after (suc k) d (omega arith) (omega arith)) in
-      ap suc later ∙ sym (cond-true _ _ _ (before 0 x (omega arith) (omega arith)))
+  -- a section that does not come before the ends stands at their place or above
+  pub from_place : (low high : ℕ) (ss : List (Section W)) (i : ℕ) (s : Section W) → i < length ss → s ≡ get_or ss i s → ends_before s.low s.high low high ≡ false → place_of low high ss ≤ i
+  from_place low high [] i s within read before = none_below i within
+  from_place low high (x ∷ ss) zero s within read before =
+      let place = cond-false (ends_before x.low x.high low high) (suc (place_of low high ss)) 0 (subst (λ (z : Section W). ends_before z.low z.high low high ≡ false) read before) in
+      omega arith
+  from_place low high (x ∷ ss) (suc i) s within read before =
+      let later = from_place low high ss i s (omega arith) read before in
+      cond_both (ends_before x.low x.high low high) (suc (place_of low high ss)) 0 (λ p. p ≤ suc i) (λ _. omega arith) (λ _. omega arith)
 
   pub place_within : (low high : ℕ) (ss : List (Section W)) → place_of low high ss ≤ length ss
   place_within low high [] = omega arith

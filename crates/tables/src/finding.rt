@@ -15,12 +15,23 @@ fn comes_before<M: Copy>(section: &Section<M>, ends: Ends) -> bool
     (section.low, section.high) < (ends.low(), ends.high())
 }
 
-// The place of the first section that does not come before these ends.
+// The place of the first section that does not come before these ends. Where the sections do not ascend, the library's
+// `partition_point` gives another place, so the halving is written out.
 pub fn find<M: Copy>(sections: &[Section<M>], ends: Ends) -> usize
     ensures within { result ≤ length sections.now }
     ensures first { ascends sections.now ≡ true → result ≡ place_of ends.low ends.high sections.now }
 {
-    sections.partition_point(|section| comes_before(section, ends))
+    let mut from = 0;
+    let mut to = sections.len();
+    while from < to {
+        let middle = from + (to - from) / 2;
+        if comes_before(&sections[middle], ends) {
+            from = middle + 1;
+        } else {
+            to = middle;
+        }
+    }
+    from
 }
 
 // Whether the section at this place has exactly these ends.
