@@ -68,10 +68,11 @@ impl Measure for Clearance {
     }
 
     fn from_number(number: u64) -> Option<Clearance> {
-        let Ok(value) = u32::try_from(number) else {
-            return None;
-        };
-        Clearance::new(value).filter(|clearance| clearance.is_fit())
+        // Within its limits the number keeps its value under `as`.
+        match number {
+            1..=65_535 => Clearance::new(number as u32),
+            _ => None,
+        }
     }
 
     fn code() -> u8 {

@@ -10,6 +10,9 @@ const CODE: u8 = 1;
 // The most ticks that a section takes.
 pub(crate) const LONGEST: u32 = 1_000_000;
 
+// The number that stands for them.
+pub(crate) const LONGEST_NUMBER: u64 = 1_000_000;
+
 // A time in ticks, from 0 to 4,294,967,295; the top means that there is no way.
 #[derive(Clone, Copy, PartialEq, Eq, PartialOrd, Ord, Debug)]
 pub struct Ticks {
@@ -72,7 +75,10 @@ impl Measure for Ticks {
     }
 
     fn from_number(number: u64) -> Option<Ticks> {
-        Ticks::new(number).filter(|ticks| ticks.is_fit())
+        match number {
+            1..=LONGEST_NUMBER => Ticks::new(number),
+            _ => None,
+        }
     }
 
     fn code() -> u8 {

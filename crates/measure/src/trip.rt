@@ -1,7 +1,7 @@
 // Travel time and transfers.
 ghost use Rattle.std.specs.Prelude.{◌≡◌, ◌≤◌, Some};
 
-use crate::ticks::LONGEST;
+use crate::ticks::{LONGEST, LONGEST_NUMBER};
 use crate::{HouseMeasure, Measure};
 use std::fmt;
 
@@ -95,10 +95,13 @@ impl Measure for Trip {
     }
 
     fn from_number(number: u64) -> Option<Trip> {
-        let Ok(transfers) = u32::try_from(number / TRANSFER) else {
-            return None;
-        };
-        Trip::new(number % TRANSFER, transfers).filter(|trip| trip.is_fit())
+        // Within their limits the transfers keep their value under `as`.
+        match (number % TRANSFER, number / TRANSFER) {
+            (ticks @ 1..=LONGEST_NUMBER, transfers @ 0..=65_535) => {
+                Trip::new(ticks, transfers as u32)
+            }
+            _ => None,
+        }
     }
 
     fn code() -> u8 {
