@@ -5,7 +5,8 @@ use measure::Measure;
 use measure::ticks::Ticks;
 use model::records::Key;
 use queue::heap::ROOM;
-use queue::lanes::Forward;
+use queue::lanes::{Counts, Forward};
+use queue::offers::{offer, start};
 use queue::orders::ByKey;
 use queue::rank::Count;
 use queue::search::{ByCount, Search};
@@ -42,6 +43,20 @@ fn one_station_comes_and_goes(rt: HostRuntime) {
     assert!(rt; queue.is_empty());
     assert!(rt; !queue.offer(3, Count(1)));
     assert_eq!(rt; queue.take(), None);
+}
+
+#[test]
+fn one_station_by_the_free_calls(rt: HostRuntime) {
+    let mut marks = [0; 8];
+    let mut keys = blank::<8>();
+    let mut queue = start::<Counts, Key<Ticks>, Count>(&mut marks, &keys);
+    assert!(rt; offer(&mut queue, &mut marks, &mut keys, 3, Count(5)));
+    assert_eq!(rt; queue.len(), 1);
+    assert_eq!(rt; queue.first(&keys), Some((3, Count(5))));
+    assert_eq!(rt; queue.take(&mut marks, &keys), Some((3, Count(5))));
+    assert!(rt; queue.is_empty());
+    assert!(rt; !offer(&mut queue, &mut marks, &mut keys, 3, Count(1)));
+    assert_eq!(rt; queue.take(&mut marks, &keys), None);
 }
 
 #[test]
