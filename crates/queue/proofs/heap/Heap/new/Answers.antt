@@ -1,5 +1,6 @@
+use Rattle.std.proofs.Common.{arith}
 use Rattle.queue.proofs.Views.{heap_none}
 use Rattle.queue.proofs.heap.Heap.new.Goals as goal
 
 pub returns : goal.returns
-returns g c n = heap_none g.L.Order.leb c.new.result n c.new.ensures
+returns g c n = heap_none g.L.Order.leb _ n (omega arith)
