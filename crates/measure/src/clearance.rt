@@ -68,7 +68,7 @@ impl Measure for Clearance {
     }
 
     fn from_number(number: u64) -> Option<Clearance> {
-        // Within its limits the number keeps its value under `as`.
+        // Within its limits the number keeps its value under `as`. With `try_from` and `filter` it was tried, and took half as long again.
         match number {
             1..=65_535 => Clearance::new(number as u32),
             _ => None,

@@ -11,7 +11,7 @@ const CODE: u8 = 1;
 pub(crate) const LONGEST: u32 = 1_000_000;
 
 // The number that stands for them.
-pub(crate) const LONGEST_NUMBER: u64 = 1_000_000;
+pub(crate) const LONGEST_NUMBER: u64 = LONGEST as u64;
 
 // A time in ticks, from 0 to 4,294,967,295; the top means that there is no way.
 #[derive(Clone, Copy, PartialEq, Eq, PartialOrd, Ord, Debug)]

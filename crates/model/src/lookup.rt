@@ -12,7 +12,8 @@ pub fn has_ends<M: Copy>(section: &Section<M>, low: usize, high: usize) -> bool
     (section.low, section.high) == (low, high)
 }
 
-// What the section with these ends weighs, if there is one. With `find` in place of the loop it was tried, and takes twice the time.
+// What the section with these ends weighs, if there is one. With `find` in place of the loop it was tried, and took up
+// to twice the time.
 pub fn weight_between<M: Copy>(sections: &[Section<M>], ends: Ends) -> Option<M>
     ensures { result ≡ weight_of ends.low ends.high sections.now }
 {
