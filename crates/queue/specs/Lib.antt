@@ -8,4 +8,5 @@ pub mod CountLaws
 pub mod WeightLaws
 pub mod Orders
 pub mod SideLaws
+pub mod Search
 pub mod Slots

@@ -3,7 +3,8 @@
 ghost use Rattle.std.specs.Prelude.{◌≡◌, min, length, if◌then◌else◌, replicate, slice_set};
 ghost use Rattle.model.specs.declared.slot.Slot.TheVariants.{Free, Waits};
 ghost use Rattle.queue.specs.Heap.{Holds};
-ghost use Rattle.queue.specs.Slots.{may_offer, may_take, slots};
+ghost use Rattle.queue.specs.Slots.{may_offer, may_take, slots, with_key, with_mark};
+ghost use Rattle.queue.specs.declared.mark.Mark.TheVariants as Mark;
 
 use crate::heap::{Heap, Queue, ROOM};
 use crate::lane::Lane;
@@ -28,6 +29,7 @@ impl<L: Order<W>, W: Copy> Heap<L, W> {
     pub(crate) fn over<R: Copy>(marks: &mut [u8], keys: &[R]) -> Heap<L, W>
     where
         L: Lane<R, W>,
+        ensures marks { marks.new ≡ replicate (length marks.old) 0 }
         ensures view { slots L.key L.mark marks.new keys.now ≡ replicate (min (length marks.old) (length keys.now)) Free }
         ensures holds { Holds L.leb result (slots L.key L.mark marks.new keys.now) }
     {
@@ -47,6 +49,8 @@ impl<L: Order<W>, W: Copy> Heap<L, W> {
         L: Lane<R, W>,
         requires { Holds L.leb self.old (slots L.key L.mark marks.old keys.old) }
         ensures answer { result ≡ may_offer L.leb (slots L.key L.mark marks.old keys.old) s k }
+        ensures marks { marks.new ≡ (if result then with_mark L.marked marks.old s Mark.Waiting else marks.old) }
+        ensures keys { keys.new ≡ (if result then with_key L.keyed keys.old s k else keys.old) }
         ensures view { slots L.key L.mark marks.new keys.new ≡ (if result then slice_set (slots L.key L.mark marks.old keys.old) s (Waits k) else slots L.key L.mark marks.old keys.old) }
         ensures holds { Holds L.leb self.new (slots L.key L.mark marks.new keys.new) }
     {
@@ -64,6 +68,7 @@ impl<L: Order<W>, W: Copy> Heap<L, W> {
 
 // Blanks the marks and gives a new queue over them.
 pub fn start<L: Lane<R, W>, R: Copy, W: Rank>(marks: &mut [u8], keys: &[R]) -> Queue<L, W>
+    ensures marks { marks.new ≡ replicate (length marks.old) 0 }
     ensures view { slots L.key L.mark marks.new keys.now ≡ replicate (min (length marks.old) (length keys.now)) Free }
     ensures holds { Holds W.leb result (slots L.key L.mark marks.new keys.now) }
 {
@@ -87,6 +92,8 @@ pub fn offer<L: Lane<R, W>, R: Copy, W: Rank>(
 ) -> bool
     requires { Holds W.leb queue.old (slots L.key L.mark marks.old keys.old) }
     ensures answer { result ≡ may_offer W.leb (slots L.key L.mark marks.old keys.old) s k }
+    ensures marks { marks.new ≡ (if result then with_mark L.marked marks.old s Mark.Waiting else marks.old) }
+    ensures keys { keys.new ≡ (if result then with_key L.keyed keys.old s k else keys.old) }
     ensures view { slots L.key L.mark marks.new keys.new ≡ (if result then slice_set (slots L.key L.mark marks.old keys.old) s (Waits k) else slots L.key L.mark marks.old keys.old) }
     ensures holds { Holds W.leb queue.new (slots L.key L.mark marks.new keys.new) }
 {
